@@ -1,0 +1,14 @@
+pub mod Values
+pub mod Atoms
+pub mod Sheets
+pub mod Packed
+pub mod Reading
+pub mod Allowed
+pub mod Questions
+pub mod Steps
+pub mod Views
+pub mod Replies
+pub mod Demands
+pub mod Cases
+pub mod Text
+pub mod ReadOut

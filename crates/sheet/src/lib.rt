@@ -1,0 +1,47 @@
+// A packed sheet, read. Bytes come in; out goes a directory of an accepted sheet, or the refusal number (1 to 11) that document 01 gives, in
+// its fixed order. The caller's bytes stay the only copy: the directory has the counts, the kinds, the table facts, and the places of selectors
+// and clauses, so that no later layer parses again. Stands on bits and meaning; specs/Directory.antt ties a directory to the sheet that the
+// definitions read.
+
+// How many columns, keys and tables there are, and the kinds of columns (from 0) and keys (from 16), by number.
+pub struct Facts {
+    pub columns: u64,
+    pub keys: u64,
+    pub tables: u64,
+    pub kinds: [u8; 24],
+}
+
+// "each table: schema, tags, columns held"
+pub struct Table {
+    pub schema: u64,
+    pub tags: u64,
+    pub columns: u64,
+}
+
+// A policy's fields; its selector and its clauses by the numbers of their first bits.
+pub struct Policy {
+    pub restrictive: bool,
+    pub commands: u64,
+    pub selector: usize,
+    pub count: usize,
+    pub clauses: [usize; 8],
+}
+
+// What an accepted sheet holds.
+pub struct Directory {
+    pub facts: Facts,
+    pub policies: u64,
+    pub table: [Table; 16],
+    pub policy: [Policy; 16],
+}
+
+// What becomes of a sheet. A refusal's directory is all zeros.
+pub enum Outcome {
+    Accepted,
+    Refused(u32),
+}
+
+pub struct Reading {
+    pub outcome: Outcome,
+    pub directory: Directory,
+}
