@@ -1,0 +1,96 @@
+use Prim.Native.Nat.{ℕ, _+_, _-_, _*_, _<_, _≤_}
+use mathlib.Core.Path.{_≡_, refl, sym, ap, _∙_}
+use mathlib.Core.List.{List, [], _∷_, _++_, map}
+use native.Mathlib.Omega.{arith}
+use borrow.Author.Needs.{needs}
+use lib.ListN.{length, getD, take}
+use Rattle.meaning.specs.Views.{atomOf, clauseOf}
+use Rattle.asked.specs.Words.{upTo8, seen, wordAtoms}
+use Rattle.asked.proofs.Laying.{lays-none, lays-more, lays-all, upTo8-le, unmapped, no-atom}
+use Rattle.asked.proofs.lay.Statement.{statement}
+use Rattle.asked.proofs.lay.Tie as tie
+use Rattle.asked.proofs.lay.Reads as reads
+use Rattle.asked.proofs.lay.Lts as lts
+use Rattle.asked.proofs.lay_atom.Reads as lay-atom-reads
+use Rattle.asked.proofs.size.Reads as size-reads
+
+abbrev Inv-loop : tie.InvT-loop
+Inv-loop words₀ n second c k i₀ words i =
+    (i ≤ k) × (k ≤ 8) × (k ≡ upTo8 (c .count)) × (length words ≡ length words₀) × (wordAtoms words (n + i) ≡ wordAtoms words₀ n ++ map (seen second) (map atomOf (take i (c .atoms))))
+
+abbrev μ-loop : tie.MeasureT-loop
+μ-loop words₀ n second c k i₀ words i = k - i
+
+-- src/lib.rt:90:9
+size-requires : tie.Need-size-requires Inv-loop μ-loop
+size-requires c κs = search needs
+
+-- src/lib.rt:92:5
+loop-holds : tie.Need-loop-holds Inv-loop μ-loop
+loop-holds c = let a = c .before .before .args in (omega arith, (let q = upTo8-le (a .t3 .count) in let e = c .size .ensures in omega arith), c .size .ensures, refl, lays-none (a .words .now) (a .n) (a .second) (a .t3 .atoms))
+
+-- src/lib.rt:93:17
+mul-a : tie.Need-mul-a Inv-loop μ-loop
+mul-a c = omega arith
+
+-- src/lib.rt:93:17
+element-copy-out-a : tie.Need-element-copy-out-a Inv-loop μ-loop
+element-copy-out-a c = omega arith
+
+-- src/lib.rt:94:25
+add-lay-atom : tie.Need-add-lay-atom Inv-loop μ-loop
+add-lay-atom c = omega arith
+
+-- src/lib.rt:94:9
+lay-atom-requires : tie.Need-lay-atom-requires Inv-loop μ-loop
+lay-atom-requires c κs = search needs
+
+-- src/lib.rt:95:9
+add-i : tie.Need-add-i Inv-loop μ-loop
+add-i c = omega arith
+
+-- src/lib.rt:92:5
+loop-less : tie.Need-loop-less Inv-loop μ-loop
+loop-less c = omega arith
+
+-- src/lib.rt:92:5
+loop-again : tie.Need-loop-again Inv-loop μ-loop
+loop-again c =
+    let l = c .before .before .before .before .before .before .loop in
+    let a = c .before .before .before .before .before .before .before .before .before .args in
+    let len : length (a .t3 .atoms) ≡ 8 = search (needs, unmapped) in
+    (omega arith, l .inv .1, l .inv .2, search needs, lays-more (a .words .now) (l .words) (c .before .before .lay-atom .last .0) (a .n) (l .i) (a .second) (a .t3 .atoms) no-atom (omega arith) (c .before .before .lay-atom .ensures) (l .inv .4))
+
+-- src/lib.rt:97:5
+add-result : tie.Need-add-result Inv-loop μ-loop
+add-result c = omega arith
+
+-- src/lib.rt:85:1
+same-length : tie.Need-same-length Inv-loop μ-loop
+same-length c = c .before .loop .inv .3
+
+-- src/lib.rt:85:1
+returns : tie.Need-returns Inv-loop μ-loop
+returns c =
+    let l = c .before .loop in
+    let a = c .before .before .before .before .args in
+    (omega arith, lays-all (a .words .now) (l .words) (a .n) (l .i) (c .before .before .size .result) (a .second) (a .t3) (search (needs, unmapped)) (omega arith) (l .inv .2) (l .inv .4))
+
+pub lay-spec : {M : Type 1} → statement M
+lay-spec =
+    tie.close
+    (tie.spec
+    Inv-loop
+    μ-loop
+    size-requires
+    loop-holds
+    mul-a
+    element-copy-out-a
+    add-lay-atom
+    lay-atom-requires
+    add-i
+    loop-less
+    loop-again
+    add-result
+    same-length
+    returns)

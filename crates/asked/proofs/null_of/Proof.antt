@@ -1,0 +1,12 @@
+use Rattle.asked.proofs.Ways.{null-made}
+use Rattle.asked.proofs.null_of.Statement.{statement}
+use Rattle.asked.proofs.null_of.Tie as tie
+use Rattle.asked.proofs.null_of.Reads as reads
+use Rattle.asked.proofs.null_of.Lts as lts
+
+-- src/lib.rt:164:1
+returns : tie.Need-returns
+returns c = null-made _
+
+pub null-of-spec : {M : Type 1} → statement M
+null-of-spec = tie.close (tie.spec returns)

@@ -1,0 +1,12 @@
+use Rattle.asked.proofs.Ways.{some-made}
+use Rattle.asked.proofs.some_of.Statement.{statement}
+use Rattle.asked.proofs.some_of.Tie as tie
+use Rattle.asked.proofs.some_of.Reads as reads
+use Rattle.asked.proofs.some_of.Lts as lts
+
+-- src/lib.rt:164:1
+returns : tie.Need-returns
+returns c = some-made _
+
+pub some-of-spec : {M : Type 1} → statement M
+some-of-spec = tie.close (tie.spec returns)
