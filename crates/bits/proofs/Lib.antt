@@ -1,3 +1,4 @@
 pub mod BitLaws
 pub mod Laws
+pub mod WordLaws
 pub mod Vectors

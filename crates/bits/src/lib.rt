@@ -1,5 +1,9 @@
+// A field of 1..64 bits at any bit of a byte slice, read: at a place (`field_at`) with the next place or refusal 2, or at a bit
+// number (`peek`, `peek64`), where bits past the end are 0. It makes true "Bits are taken most significant first" and "each
+// field read moves it on" (01, "The packed sheet"). A field touches at most nine bytes, and these are read in a straight line,
+// not bit by bit. Stands on nothing.
 ghost use mathlib.Core.Path.{_≡_};
-ghost use Prim.Native.Nat.{ℕ, _+_, _-_, _*_, _/_, _%_, _^_, _<_, _≤_, min};
+ghost use Prim.Native.Nat.{ℕ, _+_, _-_, _*_, _/_, _%_, _^_, _<_, _≤_};
 ghost use lib.ListN.{length, getD};
 ghost use Rattle.bits.specs.Bits.{number};
 ghost use Rattle.bits.specs.Fields.{fieldAt, codeOf};
@@ -16,54 +20,75 @@ pub enum Field {
     Refused(u32),
 }
 
-// The number that `width` bits spell, a bit a turn.
-fn number_by_bits(s: &[u8], byte: usize, bit: usize, width: usize) -> u64
-    requires { ⌜ (bit ≤ 7) × (width ≤ 64) × (byte * 8 + bit + width ≤ length (now s) * 8) ⌝ }
-    ensures { λ r. ⌜ r ≡ number (now (s .entry)) (byte * 8 + bit) width ⌝ }
+// A byte, 0 past the end.
+fn byte_at(s: &[u8], at: usize) -> u8
+    ensures { λ r. ⌜ r ≡ getD (now (s .entry)) at 0 ⌝ }
+{
+    if at < s.len() {
+        return s[at];
+    }
+    0
+}
+
+fn wide(x: u8) -> u64
+    ensures { λ r. ⌜ r ≡ x ⌝ }
+{
+    x as u64
+}
+
+// Two bytes that are there as one number, then four and eight: no test and no loop between the loads, so that they are one load.
+fn two(s: &[u8], at: usize) -> u64
+    requires { ⌜ at + 2 ≤ length (now s) ⌝ }
+    ensures { λ r. ⌜ r ≡ number (now (s .entry)) (at * 8) 16 ⌝ }
+{
+    (wide(s[at]) << 8) + wide(s[at + 1])
+}
+
+fn four(s: &[u8], at: usize) -> u64
+    requires { ⌜ at + 4 ≤ length (now s) ⌝ }
+    ensures { λ r. ⌜ r ≡ number (now (s .entry)) (at * 8) 32 ⌝ }
+{
+    (two(s, at) << 16) + two(s, at + 2)
+}
+
+fn eight(s: &[u8], at: usize) -> u64
+    requires { ⌜ at + 8 ≤ length (now s) ⌝ }
+    ensures { λ r. ⌜ r ≡ number (now (s .entry)) (at * 8) 64 ⌝ }
+{
+    (four(s, at) << 32) + four(s, at + 4)
+}
+
+// Eight bytes of which some are past the end.
+fn last_eight(s: &[u8], at: usize) -> u64
+    requires { ⌜ at < 2 ^ 63 ⌝ }
+    ensures { λ r. ⌜ r ≡ number (now (s .entry)) (at * 8) 64 ⌝ }
 {
     let mut v: u64 = 0;
     let mut k = 0;
-    while k < width {
-        let i = bit + k;
-        let b = s[byte + i / 8] as u64;
-        v = v * 2 + (b >> (7 - i % 8)) % 2;
+    while k < 8 {
+        v = (v << 8) + wide(byte_at(s, at + k));
         k += 1;
     }
     v
 }
 
-fn smaller(a: usize, b: usize) -> usize
-    ensures { λ r. ⌜ r ≡ min a b ⌝ }
+// Eight bytes moved up by `bit` bits, which the ninth byte brings in.
+fn moved(eight: u64, ninth: u8, bit: usize) -> u64
+    requires { ⌜ bit ≤ 7 ⌝ }
+    ensures { λ r. ⌜ r ≡ eight * 2 ^ bit % 2 ^ 64 + ninth / 2 ^ (8 - bit) ⌝ }
 {
-    if a < b { a } else { b }
+    (eight << bit) + (wide(ninth) >> (8 - bit))
 }
 
-// The `count` bits of a byte from bit `from` on.
-fn chunk(b: u8, from: usize, count: usize) -> u64
-    requires { ⌜ from + count ≤ 8 ⌝ }
-    ensures { λ r. ⌜ r ≡ b / 2 ^ (8 - (from + count)) % 2 ^ count ⌝ }
+// The number that 64 bits spell from a bit of a byte on, 0 past the end.
+fn word(s: &[u8], byte: usize, bit: usize) -> u64
+    requires { ⌜ (byte < 2 ^ 63) × (bit ≤ 7) ⌝ }
+    ensures { λ r. ⌜ r ≡ number (now (s .entry)) (byte * 8 + bit) 64 ⌝ }
 {
-    ((b as u64) >> (8 - (from + count))) % (1u64 << count)
-}
-
-// The number that `width` bits spell, a byte a turn.
-fn number_by_bytes(s: &[u8], byte: usize, bit: usize, width: usize) -> u64
-    requires { ⌜ (bit ≤ 7) × (width ≤ 64) × (byte * 8 + bit + width ≤ length (now s) * 8) ⌝ }
-    ensures { λ r. ⌜ r ≡ number (now (s .entry)) (byte * 8 + bit) width ⌝ }
-{
-    let mut v: u64 = 0;
-    let mut at = byte;
-    let mut from = bit;
-    let mut got = 0;
-    while got < width {
-        let t = smaller(8 - from, width - got);
-        v = (v << t) + chunk(s[at], from, t);
-        let e = from + t;
-        at += e / 8;
-        from = e % 8;
-        got += t;
+    if byte + 8 < s.len() {
+        return moved(eight(s, byte), s[byte + 8], bit);
     }
-    v
+    moved(last_eight(s, byte), byte_at(s, byte + 8), bit)
 }
 
 // The field of `width` bits at a place.
@@ -89,7 +114,7 @@ pub fn field_at(s: &[u8], at: Place, width: usize) -> Field
         return Field::Refused(2);
     }
     Field::Value(
-        number_by_bytes(s, byte, bit, width),
+        word(s, byte, bit) >> (64 - width),
         Place {
             byte: byte + end / 8,
             bit: end % 8,
@@ -107,32 +132,20 @@ pub fn code_of(f: Field) -> u32
     }
 }
 
-// A byte, 0 past the end.
-fn byte_at(s: &[u8], at: usize) -> u8
-    ensures { λ r. ⌜ r ≡ getD (now (s .entry)) at 0 ⌝ }
+// The number that 64 bits spell from bit number p on. Bits past the end are 0, so nothing is asked of p.
+pub fn peek64(s: &[u8], p: usize) -> u64
+    ensures { λ r. ⌜ r ≡ number (now (s .entry)) p 64 ⌝ }
 {
-    if at < s.len() {
-        return s[at];
-    }
-    0
+    word(s, p / 8, p % 8)
 }
 
-// The number that `width` bits spell from bit number p on. Bits past the end are 0, so nothing is asked of p.
+// The same of `width` bits.
 pub fn peek(s: &[u8], p: usize, width: usize) -> u64
     requires { ⌜ width ≤ 64 ⌝ }
     ensures { λ r. ⌜ r ≡ number (now (s .entry)) p width ⌝ }
 {
-    let mut v: u64 = 0;
-    let mut at = p / 8;
-    let mut from = p % 8;
-    let mut got = 0;
-    while got < width {
-        let t = smaller(8 - from, width - got);
-        v = (v << t) + chunk(byte_at(s, at), from, t);
-        let e = from + t;
-        at += e / 8;
-        from = e % 8;
-        got += t;
+    if width < 1 {
+        return 0;
     }
-    v
+    peek64(s, p) >> (64 - width)
 }
