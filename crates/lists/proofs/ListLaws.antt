@@ -58,3 +58,8 @@ module _ {A : Type 0} where
 pub each-one : {A B : Type 0} {R : A → B → Type 0} → ((a : A) (b c : B) → R a b → R a c → b ≡ c) → {xs : List A} {ys zs : List B} → Each R xs ys → Each R xs zs → ys ≡ zs
 each-one u Each.none Each.none = refl
 each-one u (Each.one {a} {b} {xs} {bs} r e) (Each.one {b = c} q f) = ap (λ h. h ∷ bs) (u a b c r q) ∙ ap (λ t. c ∷ t) (each-one u e f)
+
+-- what all of two lists have, all of both have
+pub all-append : {A : Type 0} (P : A → Type 0) (xs ys : List A) → All P xs → All P ys → All P (xs ++ ys)
+all-append P [] ys h k = k
+all-append P (x ∷ xs) ys h k = (h .0, all-append P xs ys (h .1) k)

@@ -16,9 +16,12 @@ use Rattle.bits.specs.Bits.{bits, bytesOf}
 use Rattle.meaning.specs.Packed.{valueBits, contentBits, contentsBits, packedSession, packedRow}
 use Rattle.meaning.specs.Reading.{found, give, field, content, contents, padding, nothingMore, row, readSession}
 use Rattle.meaning.specs.Questions.{Holds, IsSession}
-use Rattle.meaning.proofs.CodecLaws.{Written, written-split, Binary, all-append, reads-field, makes}
+use Rattle.bits.proofs.StandLaws.{Written, written-split, Binary}
+use Rattle.lists.proofs.ListLaws.{all-append}
+use Rattle.meaning.proofs.CodecLaws.{reads-field, makes}
 use Rattle.meaning.proofs.FormLaws.{value-reads}
-use Rattle.meaning.proofs.ByteLaws.{packed-written, packed-padding, packed-ends}
+use Rattle.bits.proofs.ByteLaws.{packed-written}
+use Rattle.meaning.proofs.PaddingLaws.{packed-padding, packed-ends}
 use Rattle.meaning.proofs.SheetLaws.{step}
 
 content-found : (k : Kind) (s : List ℕ) (p : ℕ) (c : Content) (q : ℕ) → Fits k c → Written s p q (contentBits k c) → content k s p ≡ found c q

@@ -19,9 +19,11 @@ use Rattle.meaning.specs.Packed.{contentBits, contentsBits, packedSessio
 use Rattle.meaning.specs.Reading.{found, refused, onRead, give, need, field, value, content, contents, padding, nothingMore, Row, row, rows, readSession, readRows}
 use Rattle.meaning.specs.Demands.{AreBytes}
 use Rattle.meaning.proofs.ReadLaws.{read-split, found-same}
-use Rattle.meaning.proofs.CodecLaws.{Written, written-nil, written-append, reads-field, found-end, not-found, made}
+use Rattle.bits.proofs.StandLaws.{Written, written-nil, written-append}
+use Rattle.meaning.proofs.CodecLaws.{reads-field, found-end, not-found, made}
 use Rattle.meaning.proofs.FormLaws.{value-reads}
-use Rattle.meaning.proofs.ByteLaws.{Filled, filled, filled-back, by-lt, stands-at, zero-bits}
+use Rattle.bits.proofs.ByteLaws.{Filled, filled-back, by-lt, stands-at, zero-bits}
+use Rattle.meaning.proofs.PaddingLaws.{filled}
 
 content-written : (k : Kind) (s : List ℕ) (p : ℕ) (c : Content) (q : ℕ) → p ≤ length s * 8 → content k s p ≡ found c q → Written s p q (contentBits k c)
 unfolding content

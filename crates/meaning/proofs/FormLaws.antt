@@ -18,7 +18,9 @@ use Rattle.meaning.specs.Reading.{found, refused, count, kind, table, nu
 use Rattle.meaning.specs.Allowed.{heldBelow, TableAllowed, Nests, IsVariable, ValuesAllowed, OperatorAllowed, AtomAllowed, ClauseAllowed, PolicyAllowed}
 use Rattle.lists.proofs.BoolLaws.{both, join}
 use Rattle.meaning.proofs.ReadLaws.{found-same}
-use Rattle.meaning.proofs.CodecLaws.{Written, written-nil, Binary, all-append, Reads, reads-as, reads-then, reads-need, reads-give, reads-times, reads-field, not-found, found-end, refused-same, not-refused, made, makes, made-refused, made-2, makes-2, made-2-refused}
+use Rattle.bits.proofs.StandLaws.{Written, written-nil, Binary}
+use Rattle.lists.proofs.ListLaws.{all-append}
+use Rattle.meaning.proofs.CodecLaws.{Reads, reads-as, reads-then, reads-need, reads-give, reads-times, reads-field, not-found, found-end, refused-same, not-refused, made, makes, made-refused, made-2, makes-2, made-2-refused}
 
 pub count-reads : (w low high : ℕ) → high < 2 ^ w → Reads (count w low high) (λ n. (low ≤ n) × (n ≤ high)) (bits w)
 unfolding count

@@ -1,6 +1,7 @@
 pub mod Vectors
 pub mod ViewLaws
 pub mod BranchLaws
+pub mod AdmissionLaws
 pub mod LeakLaws
 pub mod UniqueLaws
 pub mod ReadLaws
@@ -14,7 +15,7 @@ pub mod AgainLaws
 pub mod TwiceLaws
 pub mod CodecLaws
 pub mod FormLaws
-pub mod ByteLaws
+pub mod PaddingLaws
 pub mod SheetLaws
 pub mod CanonLaws
 pub mod BackLaws

@@ -15,10 +15,13 @@ use Rattle.meaning.specs.Reading.{Read, found, refused, onRead, need, ti
 use Rattle.meaning.specs.Allowed.{TableAllowed, PolicyAllowed, factsOf, SheetAllowed}
 use Rattle.meaning.specs.Demands.{Accepted, AreBytes}
 use Rattle.meaning.proofs.ReadLaws.{read-split, need-true, found-same}
-use Rattle.meaning.proofs.CodecLaws.{Written, written-append, written-split, Binary, all-append, Reads, reads-as, reads-then, reads-need, reads-give, reads-times, reads-field, found-end, refused-same, not-refused, split-refused}
+use Rattle.bits.proofs.StandLaws.{Written, written-append, written-split, Binary}
+use Rattle.lists.proofs.ListLaws.{all-append}
+use Rattle.meaning.proofs.CodecLaws.{Reads, reads-as, reads-then, reads-need, reads-give, reads-times, reads-field, found-end, refused-same, not-refused, split-refused}
 use Rattle.meaning.proofs.FormLaws.{count-reads, kind-reads, table-reads, policy-reads}
 use Rattle.meaning.proofs.AgainLaws.{all-any}
-use Rattle.meaning.proofs.ByteLaws.{Filled, filled, filled-back, bytes-length, packed-written, packed-padding, packed-ends}
+use Rattle.bits.proofs.ByteLaws.{Filled, filled-back, bytes-length, packed-written}
+use Rattle.meaning.proofs.PaddingLaws.{filled, packed-padding, packed-ends}
 
 abbrev CountsAllowed : Counts → Type 0
 CountsAllowed n = (n .columns ≤ 16) × ((1 ≤ n .keys) × (n .keys ≤ 8)) × ((1 ≤ n .tables) × (n .tables ≤ 16)) × (n .policies ≤ 16)

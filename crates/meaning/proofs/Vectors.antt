@@ -6,9 +6,10 @@ use mathlib.Core.List.{List, [], _∷_, _++_}
 use Rattle.meaning.specs.Text.{ascii}
 use Rattle.meaning.specs.ReadOut.{decimalIn, decimal}
 use Rattle.meaning.specs.Values.{token}
-use Rattle.meaning.specs.Atoms.{equals}
+use Rattle.meaning.specs.Atoms.{equals, is-null, Clause}
 use Rattle.meaning.specs.Sheets.{Sheet, all, not, branches, branchCount, tablesServe}
 use Rattle.bits.specs.Bits.{bits, spelled, bytesFrom, bytesOf, bitAt, number}
+use Rattle.meaning.specs.Steps.{on}
 use Rattle.meaning.specs.Packed.{sheetBits, packed}
 use Rattle.meaning.specs.Reading.{Read, found, refused, readSheet, field, count, kind, table, numberBelow, selectorNode, selector, variable, value, values, mate, operand, atom, clause, policy, padding, nothingMore, counts, tableFacts, sheetFields}
 
@@ -40,6 +41,28 @@ is-read-too = refl
 has-one-branch : branchCount example 0 0 ≡ 1
 unfolding branchCount
 has-one-branch = refl
+
+-- "the permissive clause varying slowest and the last restrictive policy fastest": clauses told apart by the column that they want null
+abbrev null : ℕ → Clause
+null c = on c is-null ∷ []
+
+abbrev three : Sheet
+three =
+    record {
+      columns = [];
+      keys = token ∷ [];
+      tables = record { schema = 0; tags = 0; columns = 0 } ∷ [];
+      policies =
+          record { restrictive = true; commands = 8; selector = all; clauses = null 0 ∷ null 1 ∷ [] } ∷ record { restrictive = false; commands = 8; selector = all; clauses = null 2 ∷ null 3 ∷ [] }
+          ∷ record { restrictive = true; commands = 8; selector = all; clauses = null 4 ∷ null 5 ∷ [] } ∷ [];
+    }
+
+abbrev nulls : ℕ → ℕ → ℕ → Clause
+nulls a b c = on a is-null ∷ on b is-null ∷ on c is-null ∷ []
+
+in-order : branches three 0 0 ≡ nulls 2 0 4 ∷ nulls 2 0 5 ∷ nulls 2 1 4 ∷ nulls 2 1 5 ∷ nulls 3 0 4 ∷ nulls 3 0 5 ∷ nulls 3 1 4 ∷ nulls 3 1 5 ∷ []
+unfolding branches
+in-order = refl
 
 -- "Selectors nest inside selectors to a depth of six, a lone leaf being one.": five times not, then all; six times
 depth-six : selector 6 example (0xFF ∷ 0xFE ∷ 0 ∷ []) 0 ≡ found (not (not (not (not (not all))))) 18

@@ -5,6 +5,7 @@ pub mod Packed
 pub mod Reading
 pub mod Allowed
 pub mod Questions
+pub mod Tightening
 pub mod Steps
 pub mod Views
 pub mod Replies
