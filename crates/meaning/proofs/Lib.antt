@@ -6,6 +6,7 @@ pub mod LeakLaws
 pub mod UniqueLaws
 pub mod ReadLaws
 pub mod ListingLaws
+pub mod BoundLaws
 pub mod CaseLaws
 pub mod BitLaws
 pub mod AtomLaws

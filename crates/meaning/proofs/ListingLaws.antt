@@ -18,18 +18,18 @@ use Rattle.meaning.specs.Demands.{Accepted, OthersSee}
 use Rattle.lists.proofs.ListLaws.{keep-keeps, keep-struck}
 use Rattle.meaning.proofs.ReadLaws.{read-rows-hold, read-session-holds}
 
-asks-same : {A : Type 0} {a b : A} → asks a ≡ asks b → a ≡ b
+pub asks-same : {A : Type 0} {a b : A} → asks a ≡ asks b → a ≡ b
 asks-same e = cc
 
 -- what was asked in parts was asked
-asked-split : {A B : Type 0} (m : Asked A) (f : A → Asked B) (b : B) → (m >>= f) ≡ asks b → (a : A) × (m ≡ asks a) × (f a ≡ asks b)
+pub asked-split : {A B : Type 0} (m : Asked A) (f : A → Asked B) (b : B) → (m >>= f) ≡ asks b → (a : A) × (m ≡ asks a) × (f a ≡ asks b)
 asked-split (asks a) f b e = (a, refl, e)
 asked-split (refuses n) f b e = absurd (let z : _≡_ {A = ℕ} 0 1 = cc in omega arith)
 
 asked-known : {A B : Type 0} (m : Asked A) (f : A → Asked B) (a : A) (b : B) → m ≡ asks a → (m >>= f) ≡ asks b → f a ≡ asks b
 asked-known m f a b e h = subst (λ x. (x >>= f) ≡ asks b) e h
 
-passed : {B : Type 0} (ok : Bool) (n : ℕ) (k : Asked B) (b : B) → (need ok n >> k) ≡ asks b → k ≡ asks b
+pub passed : {B : Type 0} (ok : Bool) (n : ℕ) (k : Asked B) (b : B) → (need ok n >> k) ≡ asks b → k ≡ asks b
 passed true n k b e = e
 passed false n k b e = absurd (let z : _≡_ {A = ℕ} 0 1 = cc in omega arith)
 
