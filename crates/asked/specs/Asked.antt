@@ -8,13 +8,21 @@ use lib.Dec.{ltb, eqb}
 use Rattle.meaning.specs.declared.Content.{Content}
 use Rattle.meaning.specs.declared.Content.the-variants.{Null, Value}
 use Rattle.lists.specs.Lists.{All}
-use Rattle.meaning.specs.Values.{integer, last, Contents, with}
+use Rattle.meaning.specs.Values.{integer, token, boolean, last, Contents, with}
 use Rattle.meaning.specs.Atoms.{at-most, at-least, is-below, is-above, Order, Operator, equals, in-list, not-in-list, order, is-null, is-not-null, Atom, Clause, clauseMet}
 use Rattle.meaning.specs.Steps.{on}
 use Rattle.meaning.specs.Sheets.{Sheet, second}
 use Rattle.meaning.specs.Questions.{Holds, IsSession, IsAnyRow}
 use Rattle.lists.specs.Decides.{Decides}
 use Rattle.asked.specs.Words.{wordAtoms, seen}
+
+-- the last value of the kind that a number stands for; every number past 1 is boolean
+abbrev pub lastOf : ℕ → ℕ
+lastOf n = cond (eqb n 0) (last integer) (cond (eqb n 1) (last token) (last boolean))
+
+-- where the kind of a variable stands, by the words' number: the second session's keys, 24..31, have the first's kinds
+abbrev pub kindPlace : ℕ → ℕ
+kindPlace v = cond (ltb v 24) v (v - 8)
 
 -- top has the last value of each variable's kind, by the engine's numbers
 pub record Ranges (sheet : Sheet) (top : List ℕ) : Type 0 where

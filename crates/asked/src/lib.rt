@@ -7,11 +7,12 @@ ghost use mathlib.Core.List.{List, [], _∷_, _++_, map};
 ghost use Prim.Native.Nat.{ℕ, _+_, _*_, _/_, _%_, _≤_, _<_};
 ghost use lib.ListN.{length, getD};
 ghost use Rattle.meaning.specs.Questions.{ClauseCovers, LiveClause};
-ghost use Rattle.meaning.specs.Views.{atomOf, clauseOf};
+ghost use Rattle.meaning.specs.Views.{atomOf, clauseOf, KindsAre};
 ghost use Rattle.asked.specs.Words.{slotOf, upTo8, thirdOf, seen, wordAtoms};
 ghost use Rattle.meaning.specs.Atoms.{equals, is-null, is-not-null};
 ghost use Rattle.meaning.specs.Steps.{on};
-ghost use Rattle.asked.specs.Asked.{Tells, Differs, turned, turnedNumber, TellsBoth, TellsLeak};
+ghost use Rattle.asked.specs.Asked.{lastOf, kindPlace, Ranges, Tells, Differs, turned, turnedNumber, TellsBoth, TellsLeak};
+ghost use Rattle.meaning.specs.Sheets.{Sheet};
 use meaning::Atom;
 use meaning::Clause;
 
@@ -253,4 +254,41 @@ pub fn leaks(words: &mut [u64], n: usize, top: [u64; 32]) -> bool
         return true;
     }
     false
+}
+
+// The last value of a kind by its number.
+fn last_of(kind: u8) -> u64
+    ensures { λ r. ⌜ r ≡ lastOf kind ⌝ }
+{
+    if kind == 0 {
+        return 18446744073709551615;
+    }
+    if kind == 1 {
+        return 4294967295;
+    }
+    1
+}
+
+// The kind of a variable by the words' number: the second session's keys have the first's kinds.
+fn kind_at(kinds: [u8; 24], v: usize) -> u8
+    requires { ⌜ v < 32 ⌝ }
+    ensures { λ r. ⌜ r ≡ getD kinds (kindPlace v) 0 ⌝ }
+{
+    if v < 24 {
+        return kinds[v];
+    }
+    kinds[v - 8]
+}
+
+// The last values of the variables' kinds, by the words' numbers.
+pub fn tops(kinds: [u8; 24]) -> [u64; 32]
+    ensures { λ r. ⌜ ((sheet : Sheet) → KindsAre sheet kinds → Ranges sheet r) ⌝ }
+{
+    let mut top = [0u64; 32];
+    let mut v = 0;
+    while v < 32 {
+        top[v] = last_of(kind_at(kinds, v));
+        v += 1;
+    }
+    top
 }

@@ -20,35 +20,27 @@ Inv-loop q top p n i₀ i = (i ≤ n) × (n ≤ 8) × (n ≡ upTo8 (p .count)) �
 abbrev μ-loop : tie.MeasureT-loop
 μ-loop q top p n i₀ i = n - i
 
--- src/lib.rt:211:9
 size-requires : tie.Need-size-requires Inv-loop μ-loop
 size-requires c κs = search needs
 
--- src/lib.rt:213:5
 loop-holds : tie.Need-loop-holds Inv-loop μ-loop
 loop-holds c = (omega arith, (let q = upTo8-le (c .before .args .t1 .count) in let e = c .size .ensures in omega arith), c .size .ensures, implied-none _ _ _)
 
--- src/lib.rt:214:17
 mul-a : tie.Need-mul-a Inv-loop μ-loop
 mul-a c = omega arith
 
--- src/lib.rt:214:17
 element-copy-out-a : tie.Need-element-copy-out-a Inv-loop μ-loop
 element-copy-out-a c = omega arith
 
--- src/lib.rt:215:12
 implies-requires : tie.Need-implies-requires Inv-loop μ-loop
 implies-requires c κs = search needs
 
--- src/lib.rt:216:13
 add-i : tie.Need-add-i Inv-loop μ-loop
 add-i c = omega arith
 
--- src/lib.rt:213:5
 loop-less : tie.Need-loop-less Inv-loop μ-loop
 loop-less c = omega arith
 
--- src/lib.rt:213:5
 loop-again : tie.Need-loop-again Inv-loop μ-loop
 loop-again c =
     let l = c .before .before .before .before .loop in
@@ -56,14 +48,12 @@ loop-again c =
     let len : length (p .atoms) ≡ 8 = search (needs, unmapped) in
     (omega arith, l .inv .1, l .inv .2, implied-more _ (p .atoms) _ (l .i) no-atom _ (omega arith) (c .if1 .taken) (c .before .implies .ensures) (l .inv .3))
 
--- src/lib.rt:218:13
 returns : tie.Need-returns Inv-loop μ-loop
 returns c =
     let l = c .before .before .before .before .loop in
     let a = c .before .before .before .before .before .before .args in
     implied-not _ (a .t1) (clauseOf (a .q)) (l .i) (c .before .before .before .before .before .size .result) no-atom _ (search (needs, unmapped)) (omega arith) (l .inv .2) (c .if1 .left) (c .before .implies .ensures)
 
--- src/lib.rt:208:1
 returns-2 : tie.Need-returns-2 Inv-loop μ-loop
 returns-2 c =
     let l = c .before .loop in

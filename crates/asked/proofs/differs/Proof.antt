@@ -14,31 +14,24 @@ use Rattle.asked.proofs.differs.Lts as lts
 use Rattle.asked.proofs.lay.Reads as lay-reads
 use Rattle.reach.proofs.apart.Reads as apart-reads
 
--- src/lib.rt:128:17
 slice-aggregate-lay : tie.Need-slice-aggregate-lay
 slice-aggregate-lay c = search needs
 
--- src/lib.rt:128:9
 lay-requires : tie.Need-lay-requires
 lay-requires c κs = search needs
 
--- src/lib.rt:129:13
 mul-m : tie.Need-mul-m
 mul-m c = search needs
 
--- src/lib.rt:132:19
 array-share-prefix-words : tie.Need-array-share-prefix-words
 array-share-prefix-words c = search needs
 
--- src/lib.rt:132:19
 slice-aggregate-apart : tie.Need-slice-aggregate-apart
 slice-aggregate-apart c = sym (length-take-le _ _ (search needs))
 
--- src/lib.rt:132:5
 apart-requires : tie.Need-apart-requires
 apart-requires c κs = (omega arith, omega arith, few-atoms (c .before .before .lay .result * 11) (c .before .before .lay .last .0) (let q = c .before .before .lay .ensures .0 in omega arith))
 
--- src/lib.rt:124:1
 returns : tie.Need-returns
 returns c = let a = c .before .before .before .before .before .args in differs-told (c .before .before .before .lay .last .0) _ _ (c .before .before .before .lay .result) (a .u) (a .w) (clauseOf (a .c)) _ refl (search needs) (c .before .before .before .lay .ensures .1) (c .apart .ensures)
 

@@ -10,71 +10,54 @@ use Rattle.asked.proofs.meets_both.Reads as meets-both-reads
 use Rattle.asked.proofs.null_of.Reads as null-of-reads
 use Rattle.asked.proofs.turned_atom.Reads as turned-atom-reads
 
--- src/lib.rt:184:31
 turned-atom-requires : tie.Need-turned-atom-requires
 turned-atom-requires c κs = search needs
 
--- src/lib.rt:184:12
 meets-both-requires : tie.Need-meets-both-requires
 meets-both-requires c κs = search needs
 
--- src/lib.rt:185:13
 returns : tie.Need-returns
 returns c = implies-turned-yes _ (clauseOf (c .before .before .before .before .args .others)) (c .before .before .before .before .args .a) (c .before .before .turned-atom .result) _ (c .before .before .turned-atom .ensures) (c .before .meets-both .ensures) (c .if2 .taken)
 
--- src/lib.rt:187:9
 returns-2 : tie.Need-returns-2
 returns-2 c = implies-null-no _ (clauseOf (c .before .before .before .before .args .others)) (c .before .before .before .before .args .a) (c .before .before .turned-atom .result) _ (c .before .before .turned-atom .ensures) (c .before .meets-both .ensures) (c .if2 .left) (c .before .before .before .if1 .taken)
 
--- src/lib.rt:189:27
 null-of-requires : tie.Need-null-of-requires
 null-of-requires c κs = search needs
 
--- src/lib.rt:189:8
 meets-both-requires-2 : tie.Need-meets-both-requires-2
 meets-both-requires-2 c κs = search needs
 
--- src/lib.rt:190:9
 returns-3 : tie.Need-returns-3
 returns-3 c = implies-null-yes _ (clauseOf (c .before .before .before .before .args .others)) (c .before .before .before .before .args .a) (c .before .before .null-of .result) _ (c .before .before .null-of .ensures) (c .before .meets-both2 .ensures) (c .if3 .taken) (c .before .before .before .if1 .left)
 
--- src/lib.rt:193:31
 null-of-requires-2 : tie.Need-null-of-requires-2
 null-of-requires-2 c κs = search needs
 
--- src/lib.rt:193:12
 meets-both-requires-3 : tie.Need-meets-both-requires-3
 meets-both-requires-3 c κs = search needs
 
--- src/lib.rt:194:13
 returns-4 : tie.Need-returns-4
 returns-4 c = implies-other-yes _ (clauseOf (c .before .before .before .before .before .before .before .before .args .others)) (c .before .before .before .before .before .before .before .before .args .a) (c .before .before .null-of2 .result) _ (c .before .before .null-of2 .ensures) (c .before .meets-both3 .ensures) (c .if5 .taken) (c .before .before .before .if4 .taken)
 
--- src/lib.rt:196:12
 differs-requires : tie.Need-differs-requires
 differs-requires c κs = search needs
 
--- src/lib.rt:197:13
 returns-5 : tie.Need-returns-5
 returns-5 c = implies-apart-yes _ (clauseOf (c .before .before .before .before .before .before .before .before .before .before .args .others)) (c .before .before .before .before .before .before .before .before .before .before .args .a) _ (c .before .differs .ensures) (c .if6 .taken) (c .before .before .before .before .before .if4 .taken)
 
--- src/lib.rt:199:9
 returns-6 : tie.Need-returns-6
 returns-6 c = implies-equals-no _ (clauseOf (c .before .before .before .before .before .before .before .before .before .before .args .others)) (c .before .before .before .before .before .before .before .before .before .before .args .a) (c .before .before .before .before .before .before .before .before .null-of .result) (c .before .before .before .before .null-of2 .result) _ _ _ (c .before .before .before .before .before .before .before .before .null-of .ensures) (c .before .before .before .before .before .before .before .meets-both2 .ensures) (c .before .before .before .before .before .before .if3 .left) (c .before .before .before .before .null-of2 .ensures) (c .before .before .before .meets-both3 .ensures) (c .before .before .if5 .left) (c .before .differs .ensures) (c .if6 .left) (c .before .before .before .before .before .if4 .taken)
 
--- src/lib.rt:201:27
 turned-atom-requires-2 : tie.Need-turned-atom-requires-2
 turned-atom-requires-2 c κs = search needs
 
--- src/lib.rt:201:8
 meets-both-requires-4 : tie.Need-meets-both-requires-4
 meets-both-requires-4 c κs = search needs
 
--- src/lib.rt:202:9
 returns-7 : tie.Need-returns-7
 returns-7 c = implies-turned-yes _ (clauseOf (c .before .before .before .before .before .before .before .before .args .others)) (c .before .before .before .before .before .before .before .before .args .a) (c .before .before .turned-atom2 .result) _ (c .before .before .turned-atom2 .ensures) (c .before .meets-both4 .ensures) (c .if7 .taken)
 
--- src/lib.rt:177:1
 returns-8 : tie.Need-returns-8
 returns-8 c = implies-plain-no _ (clauseOf (c .before .before .before .before .before .before .before .before .args .others)) (c .before .before .before .before .before .before .before .before .args .a) (c .before .before .before .before .before .before .null-of .result) (c .before .before .turned-atom2 .result) _ _ (c .before .before .before .before .before .before .null-of .ensures) (c .before .before .before .before .before .meets-both2 .ensures) (c .before .before .before .before .if3 .left) (c .before .before .turned-atom2 .ensures) (c .before .meets-both4 .ensures) (c .if7 .left) (c .before .before .before .if4 .left) (c .before .before .before .before .before .before .before .if1 .left)
 

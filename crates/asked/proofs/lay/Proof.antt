@@ -21,39 +21,30 @@ Inv-loop words₀ n second c k i₀ words i =
 abbrev μ-loop : tie.MeasureT-loop
 μ-loop words₀ n second c k i₀ words i = k - i
 
--- src/lib.rt:90:9
 size-requires : tie.Need-size-requires Inv-loop μ-loop
 size-requires c κs = search needs
 
--- src/lib.rt:92:5
 loop-holds : tie.Need-loop-holds Inv-loop μ-loop
 loop-holds c = let a = c .before .before .args in (omega arith, (let q = upTo8-le (a .t3 .count) in let e = c .size .ensures in omega arith), c .size .ensures, refl, lays-none (a .words .now) (a .n) (a .second) (a .t3 .atoms))
 
--- src/lib.rt:93:17
 mul-a : tie.Need-mul-a Inv-loop μ-loop
 mul-a c = omega arith
 
--- src/lib.rt:93:17
 element-copy-out-a : tie.Need-element-copy-out-a Inv-loop μ-loop
 element-copy-out-a c = omega arith
 
--- src/lib.rt:94:25
 add-lay-atom : tie.Need-add-lay-atom Inv-loop μ-loop
 add-lay-atom c = omega arith
 
--- src/lib.rt:94:9
 lay-atom-requires : tie.Need-lay-atom-requires Inv-loop μ-loop
 lay-atom-requires c κs = search needs
 
--- src/lib.rt:95:9
 add-i : tie.Need-add-i Inv-loop μ-loop
 add-i c = omega arith
 
--- src/lib.rt:92:5
 loop-less : tie.Need-loop-less Inv-loop μ-loop
 loop-less c = omega arith
 
--- src/lib.rt:92:5
 loop-again : tie.Need-loop-again Inv-loop μ-loop
 loop-again c =
     let l = c .before .before .before .before .before .before .loop in
@@ -61,15 +52,12 @@ loop-again c =
     let len : length (a .t3 .atoms) ≡ 8 = search (needs, unmapped) in
     (omega arith, l .inv .1, l .inv .2, search needs, lays-more (a .words .now) (l .words) (c .before .before .lay-atom .last .0) (a .n) (l .i) (a .second) (a .t3 .atoms) no-atom (omega arith) (c .before .before .lay-atom .ensures) (l .inv .4))
 
--- src/lib.rt:97:5
 add-result : tie.Need-add-result Inv-loop μ-loop
 add-result c = omega arith
 
--- src/lib.rt:85:1
 same-length : tie.Need-same-length Inv-loop μ-loop
 same-length c = c .before .loop .inv .3
 
--- src/lib.rt:85:1
 returns : tie.Need-returns Inv-loop μ-loop
 returns c =
     let l = c .before .loop in

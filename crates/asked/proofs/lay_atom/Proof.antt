@@ -21,98 +21,75 @@ Inv-loop words₀ n second b values op k₀ words k =
 abbrev μ-loop : tie.MeasureT-loop
 μ-loop words₀ n second b values op k₀ words k = 8 - k
 
--- src/lib.rt:58:13
 mul-b : tie.Need-mul-b Inv-loop μ-loop
 mul-b c = omega arith
 
--- src/lib.rt:61:16
 slot-requires : tie.Need-slot-requires Inv-loop μ-loop
 slot-requires c κs = search needs
 
--- src/lib.rt:61:5
 mul-words : tie.Need-mul-words Inv-loop μ-loop
 mul-words c = omega arith
 
--- src/lib.rt:61:5
 slice-write-words : tie.Need-slice-write-words Inv-loop μ-loop
 slice-write-words c = omega arith
 
--- src/lib.rt:62:11
 add-words : tie.Need-add-words Inv-loop μ-loop
 add-words c = omega arith
 
--- src/lib.rt:62:5
 mul-words-2 : tie.Need-mul-words-2 Inv-loop μ-loop
 mul-words-2 c = omega arith
 
--- src/lib.rt:62:5
 slice-write-words-2 : tie.Need-slice-write-words-2 Inv-loop μ-loop
 slice-write-words-2 c = simp length-set (omega arith)
 
--- src/lib.rt:63:20
 third-requires : tie.Need-third-requires Inv-loop μ-loop
 third-requires c κs = search needs
 
--- src/lib.rt:63:11
 add-words-2 : tie.Need-add-words-2 Inv-loop μ-loop
 add-words-2 c = omega arith
 
--- src/lib.rt:63:5
 mul-words-3 : tie.Need-mul-words-3 Inv-loop μ-loop
 mul-words-3 c = omega arith
 
--- src/lib.rt:63:5
 slice-write-words-3 : tie.Need-slice-write-words-3 Inv-loop μ-loop
 slice-write-words-3 c = simp length-set (omega arith)
 
--- src/lib.rt:65:5
 loop-holds : tie.Need-loop-holds Inv-loop μ-loop
 loop-holds c = (omega arith, simp length-set (omega arith), refl, (λ i l. refl), λ j l. absurd (not-suc-le-zero l))
 
--- src/lib.rt:66:28
 mul-words-4 : tie.Need-mul-words-4 Inv-loop μ-loop
 mul-words-4 c = omega arith
 
--- src/lib.rt:66:28
 array-read-words : tie.Need-array-read-words Inv-loop μ-loop
 array-read-words c = search needs
 
--- src/lib.rt:66:15
 add-words-3 : tie.Need-add-words-3 Inv-loop μ-loop
 add-words-3 c = omega arith
 
--- src/lib.rt:66:15
 add-words-4 : tie.Need-add-words-4 Inv-loop μ-loop
 add-words-4 c = omega arith
 
--- src/lib.rt:66:9
 mul-words-5 : tie.Need-mul-words-5 Inv-loop μ-loop
 mul-words-5 c = omega arith
 
--- src/lib.rt:66:9
 slice-write-words-4 : tie.Need-slice-write-words-4 Inv-loop μ-loop
 slice-write-words-4 c = omega arith
 
--- src/lib.rt:67:9
 add-k : tie.Need-add-k Inv-loop μ-loop
 add-k c = omega arith
 
--- src/lib.rt:65:5
 loop-less : tie.Need-loop-less Inv-loop μ-loop
 loop-less c = omega arith
 
--- src/lib.rt:65:5
 loop-again : tie.Need-loop-again Inv-loop μ-loop
 loop-again c =
     let l = c .before .loop in
     let a = c .before .before .before .before .before .before .args in
     (omega arith, simp length-set (l .inv .1), simp length-set (simp length-set at (l .inv .2)), (λ i d. getD-set-other (l .words) _ i _ 0 (omega arith) ∙ l .inv .3 i d), grow-new (λ j. getD (a .a .values) j 0) (l .words) _ (l .k) _ (omega arith) (l .inv .4) refl)
 
--- src/lib.rt:54:1
 same-length : tie.Need-same-length Inv-loop μ-loop
 same-length c = simp length-set at (c .before .loop .inv .2)
 
--- src/lib.rt:54:1
 returns : tie.Need-returns Inv-loop μ-loop
 returns c =
     let l = c .before .loop in

@@ -15,75 +15,57 @@ use Rattle.asked.proofs.null_of.Reads as null-of-reads
 use Rattle.asked.proofs.some_of.Reads as some-of-reads
 use Rattle.reach.proofs.apart.Reads as apart-reads
 
--- src/lib.rt:253:29
 null-of-requires : tie.Need-null-of-requires
 null-of-requires c κs = search needs
 
--- src/lib.rt:253:42
 some-of-requires : tie.Need-some-of-requires
 some-of-requires c κs = search needs
 
--- src/lib.rt:253:8
 meets-with-requires : tie.Need-meets-with-requires
 meets-with-requires c κs = search needs
 
--- src/lib.rt:254:9
 same-length : tie.Need-same-length
 same-length c = search needs
 
--- src/lib.rt:254:9
 returns : tie.Need-returns
 returns c = leaks-first (c .before .before .before .before .before .before .before .before .args .words .now) _ (c .before .before .before .before .before .before .before .before .args .n) _ _ _ (c .before .before .before .before .before .null-of .ensures) (c .before .before .before .before .some-of .ensures) (c .before .before .before .meets-with .ensures .1) (c .if1 .taken)
 
--- src/lib.rt:256:29
 some-of-requires-2 : tie.Need-some-of-requires-2
 some-of-requires-2 c κs = search needs
 
--- src/lib.rt:256:42
 null-of-requires-2 : tie.Need-null-of-requires-2
 null-of-requires-2 c κs = search needs
 
--- src/lib.rt:256:8
 meets-with-requires-2 : tie.Need-meets-with-requires-2
 meets-with-requires-2 c κs = search needs
 
--- src/lib.rt:257:9
 same-length-2 : tie.Need-same-length-2
 same-length-2 c = search needs
 
--- src/lib.rt:257:9
 returns-2 : tie.Need-returns-2
 returns-2 c = leaks-second (c .before .before .before .before .before .before .before .before .before .before .before .before .before .before .before .args .words .now) (c .before .before .before .before .before .before .before .before .before .before .meets-with .last .0) _ (c .before .before .before .before .before .before .before .before .before .before .before .before .before .before .before .args .n) _ _ _ (c .before .before .before .before .before .before .before .before .before .before .meets-with .ensures .0) (c .before .before .before .before .before .some-of2 .ensures) (c .before .before .before .before .null-of2 .ensures) (c .before .before .before .meets-with2 .ensures .1) (c .if2 .taken)
 
--- src/lib.rt:259:13
 mul-m : tie.Need-mul-m
 mul-m c = search needs
 
--- src/lib.rt:260:22
 slice-reshare-prefix-apart : tie.Need-slice-reshare-prefix-apart
 slice-reshare-prefix-apart c = search needs
 
--- src/lib.rt:260:22
 slice-aggregate-apart : tie.Need-slice-aggregate-apart
 slice-aggregate-apart c = sym (length-take-le _ _ (search needs))
 
--- src/lib.rt:260:8
 apart-requires : tie.Need-apart-requires
 apart-requires c κs = (omega arith, omega arith, few-atoms (c .before .before .before .before .before .before .before .before .before .before .before .before .before .before .before .before .args .n * 11) (c .before .before .before .before .meets-with2 .last .0) (let q = c .before .before .before .before .before .before .before .before .before .before .before .before .before .before .before .before .pre .0 in omega arith))
 
--- src/lib.rt:261:9
 same-length-3 : tie.Need-same-length-3
 same-length-3 c = search needs
 
--- src/lib.rt:261:9
 returns-3 : tie.Need-returns-3
 returns-3 c = leaks-apart (c .before .before .before .before .before .before .before .before .before .before .before .before .before .before .before .before .before .before .args .words .now) (c .before .before .before .before .before .before .meets-with2 .last .0) _ (c .before .before .before .before .before .before .before .before .before .before .before .before .before .before .before .before .before .before .args .n) _ _ (c .before .before .before .before .before .before .meets-with2 .ensures .0 ∙ c .before .before .before .before .before .before .before .before .before .before .before .before .before .meets-with .ensures .0) refl (let h = c .before .before .before .before .before .before .before .before .before .before .before .before .before .before .before .before .before .before .pre .1 in let g : length (c .before .before .before .before .before .before .meets-with2 .last .0) ≡ length (c .before .before .before .before .before .before .before .before .before .before .before .before .before .before .before .before .before .before .args .words .now) = search needs in omega arith) (c .before .apart .ensures) (c .if3 .taken)
 
--- src/lib.rt:249:1
 same-length-4 : tie.Need-same-length-4
 same-length-4 c = search needs
 
--- src/lib.rt:249:1
 returns-4 : tie.Need-returns-4
 returns-4 c =
     leaks-not (c .before .before .before .before .before .before .before .before .before .before .before .before .before .before .before .before .before .before .args .words .now) (c .before .before .before .before .before .before .before .before .before .before .before .before .before .meets-with .last .0) (c .before .before .before .before .before .before .meets-with2 .last .0) _ (c .before .before .before .before .before .before .before .before .before .before .before .before .before .before .before .before .before .before .args .n) _ _ _ _ _ _ _ _

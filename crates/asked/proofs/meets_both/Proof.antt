@@ -16,43 +16,33 @@ use Rattle.asked.proofs.lay.Reads as lay-reads
 use Rattle.asked.proofs.lay_atom.Reads as lay-atom-reads
 use Rattle.reach.proofs.satisfiable.Reads as satisfiable-reads
 
--- src/lib.rt:117:17
 slice-aggregate-lay : tie.Need-slice-aggregate-lay
 slice-aggregate-lay c = search needs
 
--- src/lib.rt:117:9
 lay-requires : tie.Need-lay-requires
 lay-requires c κs = search needs
 
--- src/lib.rt:118:14
 slice-aggregate-lay-atom : tie.Need-slice-aggregate-lay-atom
 slice-aggregate-lay-atom c = search needs
 
--- src/lib.rt:118:5
 lay-atom-requires : tie.Need-lay-atom-requires
 lay-atom-requires c κs = search needs
 
--- src/lib.rt:119:13
 mul-m : tie.Need-mul-m
 mul-m c = search needs
 
--- src/lib.rt:119:13
 add-m : tie.Need-add-m
 add-m c = search needs
 
--- src/lib.rt:120:25
 array-share-prefix-words : tie.Need-array-share-prefix-words
 array-share-prefix-words c = search needs
 
--- src/lib.rt:120:25
 slice-aggregate-satisfiable : tie.Need-slice-aggregate-satisfiable
 slice-aggregate-satisfiable c = sym (length-take-le _ _ (search needs))
 
--- src/lib.rt:120:5
 satisfiable-requires : tie.Need-satisfiable-requires
 satisfiable-requires c κs = few-atoms (c .before .before .before .before .before .lay .result * 11 + 11) (c .before .before .lay-atom .last .0) (let q = c .before .before .before .before .before .lay .ensures .0 in omega arith)
 
--- src/lib.rt:113:1
 returns : tie.Need-returns
 returns c =
     let a = c .before .before .before .before .before .before .before .before .args in

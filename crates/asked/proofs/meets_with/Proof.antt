@@ -14,43 +14,33 @@ use Rattle.asked.proofs.meets_with.Lts as lts
 use Rattle.asked.proofs.lay_atom.Reads as lay-atom-reads
 use Rattle.reach.proofs.satisfiable.Reads as satisfiable-reads
 
--- src/lib.rt:242:5
 lay-atom-requires : tie.Need-lay-atom-requires
 lay-atom-requires c κs = search needs
 
--- src/lib.rt:243:21
 add-lay-atom : tie.Need-add-lay-atom
 add-lay-atom c = search needs
 
--- src/lib.rt:243:5
 lay-atom-requires-2 : tie.Need-lay-atom-requires-2
 lay-atom-requires-2 c κs = search needs
 
--- src/lib.rt:244:13
 mul-m : tie.Need-mul-m
 mul-m c = search needs
 
--- src/lib.rt:244:13
 add-m : tie.Need-add-m
 add-m c = search needs
 
--- src/lib.rt:245:25
 slice-reshare-prefix-satisfiable : tie.Need-slice-reshare-prefix-satisfiable
 slice-reshare-prefix-satisfiable c = search needs
 
--- src/lib.rt:245:25
 slice-aggregate-satisfiable : tie.Need-slice-aggregate-satisfiable
 slice-aggregate-satisfiable c = sym (length-take-le _ _ (search needs))
 
--- src/lib.rt:245:5
 satisfiable-requires : tie.Need-satisfiable-requires
 satisfiable-requires c κs = few-atoms (c .before .before .before .before .before .before .before .before .before .before .args .n * 11 + 22) (c .before .before .before .lay-atom2 .last .0) (let q = c .before .before .before .before .before .before .before .before .before .before .pre .0 in omega arith)
 
--- src/lib.rt:237:1
 same-length : tie.Need-same-length
 same-length c = search needs
 
--- src/lib.rt:237:1
 returns : tie.Need-returns
 returns c =
     let a = c .before .before .before .before .before .before .before .before .before .before .before .args in

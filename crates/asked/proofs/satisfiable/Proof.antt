@@ -14,31 +14,24 @@ use Rattle.asked.proofs.satisfiable.Lts as lts
 use Rattle.asked.proofs.lay.Reads as lay-reads
 use Rattle.reach.proofs.satisfiable.Reads as satisfiable-reads
 
--- src/lib.rt:107:17
 slice-aggregate-lay : tie.Need-slice-aggregate-lay
 slice-aggregate-lay c = search needs
 
--- src/lib.rt:107:9
 lay-requires : tie.Need-lay-requires
 lay-requires c κs = search needs
 
--- src/lib.rt:108:13
 mul-m : tie.Need-mul-m
 mul-m c = search needs
 
--- src/lib.rt:109:25
 array-share-prefix-words : tie.Need-array-share-prefix-words
 array-share-prefix-words c = search needs
 
--- src/lib.rt:109:25
 slice-aggregate-satisfiable : tie.Need-slice-aggregate-satisfiable
 slice-aggregate-satisfiable c = sym (length-take-le _ _ (search needs))
 
--- src/lib.rt:109:5
 satisfiable-requires : tie.Need-satisfiable-requires
 satisfiable-requires c κs = few-atoms (c .before .before .lay .result * 11) (c .before .before .lay .last .0) (let q = c .before .before .lay .ensures .0 in omega arith)
 
--- src/lib.rt:103:1
 returns : tie.Need-returns
 returns c = live-told (c .before .before .before .lay .last .0) _ _ (c .before .before .before .lay .result) (clauseOf (c .before .before .before .before .before .args .c)) _ refl (search needs) (c .before .before .before .lay .ensures .1) (c .satisfiable .ensures)
 

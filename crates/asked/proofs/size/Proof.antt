@@ -4,11 +4,9 @@ use Rattle.asked.proofs.size.Tie as tie
 use Rattle.asked.proofs.size.Reads as reads
 use Rattle.asked.proofs.size.Lts as lts
 
--- src/lib.rt:79:9
 returns : tie.Need-returns
 returns c = few _ (c .if1 .taken)
 
--- src/lib.rt:75:1
 returns-2 : tie.Need-returns-2
 returns-2 c = many _ (c .if1 .left)
 

@@ -4,7 +4,6 @@ use Rattle.asked.proofs.some_of.Tie as tie
 use Rattle.asked.proofs.some_of.Reads as reads
 use Rattle.asked.proofs.some_of.Lts as lts
 
--- src/lib.rt:164:1
 returns : tie.Need-returns
 returns c = some-made _
 

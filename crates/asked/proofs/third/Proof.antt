@@ -7,19 +7,15 @@ use Rattle.asked.proofs.third.Lts as lts
 use Rattle.asked.proofs.slot.Reads as slot-reads
 use Rattle.asked.proofs.up_to_8.Reads as up-to-8-reads
 
--- src/lib.rt:51:9
 slot-requires : tie.Need-slot-requires
 slot-requires c κs = search needs
 
--- src/lib.rt:51:9
 returns : tie.Need-returns
 returns c = third-other _ _ _ _ _ (c .before .if1 .taken) (c .slot .ensures)
 
--- src/lib.rt:53:5
 up-to-8-requires : tie.Need-up-to-8-requires
 up-to-8-requires c κs = search needs
 
--- src/lib.rt:47:1
 returns-2 : tie.Need-returns-2
 returns-2 c = third-count _ _ _ _ _ (c .before .if1 .left) (c .up-to-8 .ensures)
 

@@ -10,11 +10,9 @@ use Rattle.asked.proofs.turned_atom.Reads as reads
 use Rattle.asked.proofs.turned_atom.Lts as lts
 use Rattle.asked.proofs.turned_operator.Reads as turned-operator-reads
 
--- src/lib.rt:157:19
 turned-operator-requires : tie.Need-turned-operator-requires
 turned-operator-requires c κs = search needs
 
--- src/lib.rt:151:1
 returns : tie.Need-returns
 returns c = turned-there _ _ refl (c .turned-operator .ensures) refl refl refl
 

@@ -8,35 +8,27 @@ use Rattle.asked.proofs.turned_operator.Tie as tie
 use Rattle.asked.proofs.turned_operator.Reads as reads
 use Rattle.asked.proofs.turned_operator.Lts as lts
 
--- src/lib.rt:136:1
 returns : tie.Need-returns
 returns c = turned-at _ 1 (c .match .keys1)
 
--- src/lib.rt:136:1
 returns-2 : tie.Need-returns-2
 returns-2 c = turned-at _ 2 (c .match .keys2)
 
--- src/lib.rt:136:1
 returns-3 : tie.Need-returns-3
 returns-3 c = turned-at _ 3 (c .match .keys3)
 
--- src/lib.rt:136:1
 returns-4 : tie.Need-returns-4
 returns-4 c = turned-at _ 4 (c .match .keys4)
 
--- src/lib.rt:136:1
 returns-5 : tie.Need-returns-5
 returns-5 c = turned-at _ 5 (c .match .keys5)
 
--- src/lib.rt:136:1
 returns-6 : tie.Need-returns-6
 returns-6 c = turned-at _ 6 (c .match .keys6)
 
--- src/lib.rt:136:1
 returns-7 : tie.Need-returns-7
 returns-7 c = turned-at _ 7 (c .match .keys7)
 
--- src/lib.rt:136:1
 returns-8 : tie.Need-returns-8
 returns-8 c =
     let r = c .match .rest in

@@ -4,11 +4,9 @@ use Rattle.asked.proofs.up_to_8.Tie as tie
 use Rattle.asked.proofs.up_to_8.Reads as reads
 use Rattle.asked.proofs.up_to_8.Lts as lts
 
--- src/lib.rt:41:9
 returns : tie.Need-returns
 returns c = few _ (c .if1 .taken)
 
--- src/lib.rt:37:1
 returns-2 : tie.Need-returns-2
 returns-2 c = many _ (c .if1 .left)
 

@@ -17,51 +17,39 @@ Inv-loop vals n x marks j₀ j = (j ≤ 2065) × ((i : ℕ) → i < j → getD m
 abbrev μ-loop : tie.MeasureT-loop
 μ-loop vals n x marks j₀ j = 2065 - j
 
--- src/lib.rt:459:17
 mark-requires : tie.Need-mark-requires Inv-loop μ-loop
 mark-requires c κs = search needs
 
--- src/lib.rt:461:5
 loop-holds : tie.Need-loop-holds Inv-loop μ-loop
 loop-holds c = (omega arith, λ i l. absurd (not-suc-le-zero l))
 
--- src/lib.rt:462:12
 mul-if1 : tie.Need-mul-if1 Inv-loop μ-loop
 mul-if1 c = omega arith
 
--- src/lib.rt:462:12
 array-read-if1 : tie.Need-array-read-if1 Inv-loop μ-loop
 array-read-if1 c = omega arith
 
--- src/lib.rt:464:16
 sub-if2 : tie.Need-sub-if2 Inv-loop μ-loop
 sub-if2 c = omega arith
 
--- src/lib.rt:465:17
 returns : tie.Need-returns Inv-loop μ-loop
 returns c = free-high _ (c .before .before .before .before .mark .result) _ _ (c .before .before .before .loop .j) (c .before .before .before .before .mark .ensures) (c .before .before .before .loop .inv .1) (c .if2 .taken)
 
--- src/lib.rt:467:30
 add-t13 : tie.Need-add-t13 Inv-loop μ-loop
 add-t13 c = omega arith
 
--- src/lib.rt:467:13
 returns-2 : tie.Need-returns-2 Inv-loop μ-loop
 returns-2 c = free-found _ (c .before .before .before .before .mark .result) _ _ (c .before .before .before .loop .j) (c .before .before .before .before .mark .ensures) (c .before .before .before .loop .inv .1) (omega arith) (c .before .if1 .taken)
 
--- src/lib.rt:469:9
 add-j : tie.Need-add-j Inv-loop μ-loop
 add-j c = omega arith
 
--- src/lib.rt:461:5
 loop-less : tie.Need-loop-less Inv-loop μ-loop
 loop-less c = omega arith
 
--- src/lib.rt:461:5
 loop-again : tie.Need-loop-again Inv-loop μ-loop
 loop-again c = let l = c .before .before .loop in (omega arith, all-marked (c .before .before .before .mark .result) (l .j) (c .if1 .left) (l .inv .1))
 
--- src/lib.rt:455:1
 returns-3 : tie.Need-returns-3 Inv-loop μ-loop
 returns-3 c = let len : length (c .before .before .mark .result) ≡ 2065 = search needs in free-never _ (c .before .before .mark .result) _ _ (c .before .loop .j) (c .before .before .mark .ensures) (c .before .loop .inv .1) (omega arith) (omega arith)
 

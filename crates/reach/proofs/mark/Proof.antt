@@ -16,63 +16,48 @@ Inv-loop vals n x marks₀ k₀ marks k = (k ≤ n) × (length marks ≡ 2065) �
 abbrev μ-loop : tie.MeasureT-loop
 μ-loop vals n x marks₀ k₀ marks k = n - k
 
--- src/lib.rt:437:5
 loop-holds : tie.Need-loop-holds Inv-loop μ-loop
 loop-holds c = (omega arith, length-replicate {A = ℕ} 2065 0, marks-none _ _)
 
--- src/lib.rt:438:17
 mul-v : tie.Need-mul-v Inv-loop μ-loop
 mul-v c = omega arith
 
--- src/lib.rt:438:17
 element-copy-out-v : tie.Need-element-copy-out-v Inv-loop μ-loop
 element-copy-out-v c = omega arith
 
--- src/lib.rt:440:13
 add-k : tie.Need-add-k Inv-loop μ-loop
 add-k c = omega arith
 
--- src/lib.rt:437:5
 loop-less : tie.Need-loop-less Inv-loop μ-loop
 loop-less c = omega arith
 
--- src/lib.rt:437:5
 loop-again : tie.Need-loop-again Inv-loop μ-loop
 loop-again c = let l = c .before .before .before .loop in (omega arith, l .inv .1, marks-skip _ (l .marks) (l .k) _ (λ j d e. let h = c .if1 .taken in omega arith) (l .inv .2))
 
--- src/lib.rt:445:13
 add-k-2 : tie.Need-add-k-2 Inv-loop μ-loop
 add-k-2 c = omega arith
 
--- src/lib.rt:437:5
 loop-less-2 : tie.Need-loop-less-2 Inv-loop μ-loop
 loop-less-2 c = omega arith
 
--- src/lib.rt:437:5
 loop-again-2 : tie.Need-loop-again-2 Inv-loop μ-loop
 loop-again-2 c = let l = c .before .before .before .before .loop in (omega arith, l .inv .1, marks-skip _ (l .marks) (l .k) _ (λ j d e. let h = c .if2 .taken in omega arith) (l .inv .2))
 
--- src/lib.rt:448:9
 mul-marks : tie.Need-mul-marks Inv-loop μ-loop
 mul-marks c = omega arith
 
--- src/lib.rt:448:9
 array-write-marks : tie.Need-array-write-marks Inv-loop μ-loop
 array-write-marks c = omega arith
 
--- src/lib.rt:449:9
 add-k-3 : tie.Need-add-k-3 Inv-loop μ-loop
 add-k-3 c = omega arith
 
--- src/lib.rt:437:5
 loop-less-3 : tie.Need-loop-less-3 Inv-loop μ-loop
 loop-less-3 c = omega arith
 
--- src/lib.rt:437:5
 loop-again-3 : tie.Need-loop-again-3 Inv-loop μ-loop
 loop-again-3 c = let l = c .before .before .before .before .loop in (omega arith, simp length-set (l .inv .1), marks-add _ (l .marks) (l .k) _ _ (omega arith) (omega arith) (l .inv .2))
 
--- src/lib.rt:431:1
 returns : tie.Need-returns Inv-loop μ-loop
 returns c = let l = c .before .loop in marks-done _ (l .marks) (l .k) _ _ (omega arith) (l .inv .2)
 

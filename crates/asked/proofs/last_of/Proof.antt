@@ -1,0 +1,17 @@
+use borrow.Author.Tests.{ne-eqb}
+use Rattle.asked.proofs.last_of.Statement.{statement}
+use Rattle.asked.proofs.last_of.Tie as tie
+use Rattle.asked.proofs.last_of.Reads as reads
+use Rattle.asked.proofs.last_of.Lts as lts
+
+returns : tie.Need-returns
+returns c = rw (c .if1 .taken)
+
+returns-2 : tie.Need-returns-2
+returns-2 c = rw (c .if2 .taken)
+
+returns-3 : tie.Need-returns-3
+returns-3 c = simp (ne-eqb _ 0 (c .before .if1 .left), ne-eqb _ 1 (c .if2 .left))
+
+pub last-of-spec : {M : Type 1} → statement M
+last-of-spec = tie.close (tie.spec returns returns-2 returns-3)
