@@ -15,7 +15,7 @@ use Rattle.meaning.specs.Atoms.{Operator, equals, in-list, not-in-list, order, 
 use Rattle.meaning.specs.Sheets.{Table, Policy, Sheet, tableAt, policyAt, holds, matches, applies, permissive, restrictive, joined, choices, branches, second, columnsHeld, tablesServe}
 use Rattle.meaning.specs.Sheets as sheets
 use Rattle.meaning.specs.Allowed.{IsVariable, OperatorAllowed, AtomAllowed, ClauseAllowed, PolicyAllowed, factsOf, SheetAllowed}
-use Rattle.meaning.proofs.CodecLaws.{all-append}
+use Rattle.lists.proofs.ListLaws.{all-append}
 use Rattle.asked.specs.Asked.{There, Uses, everyColumn}
 
 module _ {A : Type 0} where
