@@ -1,0 +1,4 @@
+pub mod JoinLaws
+pub mod PickLaws
+pub mod CountLaws
+pub mod SheetLaws
