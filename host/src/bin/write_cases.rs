@@ -1,0 +1,14 @@
+//! Writes the run cases to data/cases of the repository.
+
+use fiddlecomet_host::cases::{format, groups};
+use std::path::Path;
+
+fn main() -> std::io::Result<()> {
+    let folder = Path::new(env!("CARGO_MANIFEST_DIR")).join("../data/cases");
+    std::fs::create_dir_all(&folder)?;
+    for group in groups() {
+        std::fs::write(folder.join(group.file).with_extension("txt"), format::text(&group))?;
+        println!("{} {}", group.file, group.cases.len());
+    }
+    Ok(())
+}

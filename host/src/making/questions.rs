@@ -1,0 +1,81 @@
+//! Random questions, well-formed and damaged, for each call.
+
+use super::random::Random;
+use super::{damage, sheets};
+use crate::question::Question;
+use crate::reading::pack;
+use crate::reading::sheet::Sheet;
+
+/// The six calls.
+pub const CALLS: [&str; 6] = ["branches", "dead", "isolated", "covers", "normal", "listing"];
+
+/// Bytes that a lent output might hold before the call.
+pub fn found(random: &mut Random, length: usize) -> Vec<u8> {
+    let seed = random.bits() as u8;
+    (0..length).map(|n| (n as u8).wrapping_mul(151).wrapping_add(seed)).collect()
+}
+
+/// A random question to the call.
+pub fn question(random: &mut Random, call: &str) -> Question {
+    let size = if random.once_in(3) { sheets::ANY } else { sheets::SMALL };
+    let made = sheets::sheet(random, size);
+    let packed = match random.below(12) {
+        0..=3 => {
+            let other = sheets::sheet(random, sheets::SMALL);
+            damage::sheet(random, &made, &other)
+        }
+        4 if random.once_in(8) => (0..random.below(64)).map(|_| random.bits() as u8).collect(),
+        _ => pack::sheet(&made),
+    };
+    let table = number(random, made.tables.len());
+    let command = number(random, 4);
+    match call {
+        "branches" => Question::Branches { sheet: packed, table, command },
+        "dead" => Question::Dead { sheet: packed, table, command },
+        "isolated" => Question::Isolated { sheet: packed, table, command },
+        "covers" => {
+            let (a, b) = (number(random, made.policies.len()), number(random, made.policies.len()));
+            Question::Covers { sheet: packed, a, b }
+        }
+        "normal" => {
+            let length = room(random, packed.len());
+            Question::Normal { sheet: packed, out: found(random, length) }
+        }
+        _ => listing(random, &made, packed, table, command),
+    }
+}
+
+/// A number asked: mostly one that is there.
+fn number(random: &mut Random, count: usize) -> u32 {
+    match random.below(60) {
+        0 => count as u32,
+        1 => random.bits() as u32,
+        2 => 256 * random.below(300) as u32,
+        _ => random.below(count.max(1)) as u32,
+    }
+}
+
+/// A length of lent output: mostly what is asked for, at times a little less or more.
+fn room(random: &mut Random, needed: usize) -> usize {
+    match random.below(20) {
+        0 => needed.saturating_sub(random.between(1, 9)),
+        1 => 0,
+        2..=9 => needed,
+        _ => needed + random.below(40),
+    }
+}
+
+fn listing(random: &mut Random, made: &Sheet, sheet: Vec<u8>, table: u32, command: u32) -> Question {
+    let of = (table as usize).min(made.tables.len() - 1);
+    let mut session = sheets::session(random, made);
+    let most = if random.once_in(50) { 200 } else { 12 };
+    let mut rows = sheets::row_list(random, made, of, most);
+    if random.once_in(12) {
+        damage::bytes_of(random, &mut session);
+    }
+    if random.once_in(8) {
+        damage::bytes_of(random, &mut rows);
+    }
+    let length = room(random, rows.len());
+    Question::Listing { sheet, table, command, session, rows, out: found(random, length) }
+}
