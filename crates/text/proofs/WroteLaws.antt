@@ -3,7 +3,7 @@ use Prim.Native.Nat.{ℕ, zero, suc, _+_, _-_, _/_, _%_, _<_, _≤_}
 use native.Mathlib.Nat.{add-zero}
 use native.Mathlib.Numerals.{add-one}
 use native.Mathlib.Omega.{arith}
-use mathlib.Core.Path.{_≡_, refl, sym, ap, _∙_}
+use mathlib.Core.Path.{_≡_, refl, sym, ap, subst, _∙_}
 use mathlib.Core.Bool.{Bool, true, false, cond}
 use mathlib.Core.List.{List, [], _∷_, _++_, append-assoc, append-nil}
 use lib.ListN.{length, take, getD, set, length-set, length-append, length-take}
@@ -77,3 +77,7 @@ wrote-last-digit n d l h v w = let e : d ≡ suc (d - 1) = omega arith in rw (e,
 -- room is left for the last digit
 pub digit-fits : {b m : List ℕ} {at k : ℕ} (n d : ℕ) → 1 ≤ d → at + d ≤ length b → Wrote b at (decimalIn (d - 1) n) m k → k < length m
 digit-fits n d l h w = let a = digits-length (d - 1) n in let s = w .same in let e = w .end in omega arith
+
+-- the same text under another name
+pub wrote-as : {b x y a : List ℕ} {at r : ℕ} → y ≡ x → Wrote b at x a r → Wrote b at y a r
+wrote-as {b} {x} {y} {a} {at} {r} e w = subst (λ z. Wrote b at z a r) (sym e) w

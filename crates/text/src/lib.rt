@@ -48,7 +48,8 @@ fn put_digits(out: &mut [u8], at: usize, n: u64, digits: usize) -> usize
 // A number, in decimal.
 pub fn put_decimal(out: &mut [u8], at: usize, n: u64) -> usize
     requires { ⌜ at + 20 ≤ length (now out) ⌝ }
-    ensures { λ r. ⌜ Wrote (now (out .entry)) at (decimal n) (now (out .exit)) r ⌝ }
+    ensures text { λ r. ⌜ Wrote (now (out .entry)) at (decimal n) (now (out .exit)) r ⌝ }
+    ensures short { λ r. ⌜ r ≤ at + 20 ⌝ }
 {
     put_digits(out, at, n, 20)
 }
