@@ -3,4 +3,8 @@ pub mod Laws
 pub mod WordLaws
 pub mod StandLaws
 pub mod ByteLaws
+pub mod PutLaws
+pub mod PutBackLaws
+pub mod PackLaws
+pub mod PutFieldLaws
 pub mod Vectors

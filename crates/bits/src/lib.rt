@@ -1,12 +1,13 @@
-// A field of 1..64 bits at any bit of a byte slice, read: at a place (`field_at`) with the next place or refusal 2, or at a bit
-// number (`peek`, `peek64`), where bits past the end are 0. It makes true "Bits are taken most significant first" and "each
-// field read moves it on" (01, "The packed sheet"). A field touches at most nine bytes, and these are read in a straight line,
-// not bit by bit. Stands on nothing.
+// Fields of 1..64 bits at any bit of bytes. Read: at a place (`field_at`) with the next place or refusal 2, or at a bit number
+// (`peek`, `peek64`), where bits past the end are 0. Written: over any bits (`put`), or behind the bits before, with zero bits to
+// the end of the byte (`put_field`). It makes true "Bits are taken most significant first" and "each field read moves it on"
+// (01, "The packed sheet"). A read touches at most nine bytes, in a straight line. Stands on nothing.
 ghost use mathlib.Core.Path.{_≡_};
-ghost use Prim.Native.Nat.{ℕ, _+_, _-_, _*_, _/_, _%_, _^_, _<_, _≤_};
+ghost use Prim.Native.Nat.{ℕ, _+_, _-_, _*_, _/_, _%_, _^_, _<_, _≤_, min};
 ghost use lib.ListN.{length, getD};
 ghost use Rattle.bits.specs.Bits.{number};
 ghost use Rattle.bits.specs.Fields.{fieldAt, codeOf};
+ghost use Rattle.bits.specs.Put.{patched, hasRoom, putBits, putInto, putField};
 
 // A reading place: a byte number and a bit number, 0 for the most significant.
 pub struct Place {
@@ -148,4 +149,82 @@ pub fn peek(s: &[u8], p: usize, width: usize) -> u64
         return 0;
     }
     peek64(s, p) >> (64 - width)
+}
+
+// The lowest n bits of x, by shifts.
+fn lowest(x: u64, n: usize) -> u64
+    requires { ⌜ n ≤ 63 ⌝ }
+    ensures { λ r. ⌜ r ≡ x % 2 ^ n ⌝ }
+{
+    x - ((x >> n) << n)
+}
+
+// A byte with the `w` bits above its lowest `n` replaced by the lowest `w` of d.
+fn patch(x: u8, n: usize, w: usize, d: u64) -> u8
+    requires { ⌜ n + w ≤ 8 ⌝ }
+    ensures { λ r. ⌜ r ≡ patched x n w d ⌝ }
+{
+    let b = wide(x);
+    let upper = ((b >> (n + w)) << w) + lowest(d, w);
+    ((upper << n) + lowest(b, n)) as u8
+}
+
+fn smaller(a: usize, b: usize) -> usize
+    ensures { λ r. ⌜ r ≡ min a b ⌝ }
+{
+    if a < b { a } else { b }
+}
+
+// The lowest `width` bits of `value` at a bit of a byte, where there is room for them, a byte a turn.
+fn put_bits(out: &mut [u8], byte: usize, bit: usize, width: usize, value: u64)
+    requires { ⌜ (bit ≤ 7) × (width ≤ 64) × (byte * 8 + bit + width ≤ length (now out) * 8) ⌝ }
+    ensures { λ r. ⌜ now (out .exit) ≡ putBits (now (out .entry)) (byte * 8 + bit) width value ⌝ }
+{
+    let mut at = byte;
+    let mut from = bit;
+    let mut left = width;
+    while 0 < left {
+        let t = smaller(8 - from, left);
+        let e = from + t;
+        left -= t;
+        out[at] = patch(out[at], 8 - e, t, value >> left);
+        at += e / 8;
+        from = e % 8;
+    }
+}
+
+// Whether `width` bits from bit number p on lie within `len` bytes.
+fn has_room(len: usize, p: usize, width: usize) -> bool
+    ensures { λ r. ⌜ r ≡ hasRoom len p width ⌝ }
+{
+    if 64 < width {
+        return false;
+    }
+    let byte = p / 8;
+    if len < byte {
+        return false;
+    }
+    (p % 8 + width + 7) / 8 <= len - byte
+}
+
+// Writes the lowest `width` bits of `value` from bit number p on, every other bit as found; nothing where they have no room.
+pub fn put(out: &mut [u8], p: usize, width: usize, value: u64)
+    ensures { λ r. ⌜ now (out .exit) ≡ putInto (now (out .entry)) p width value ⌝ }
+{
+    if has_room(out.len(), p, width) {
+        put_bits(out, p / 8, p % 8, width, value);
+    }
+}
+
+// The same behind the p bits written before, with zero bits to the end of the byte: what a packed form is written by.
+pub fn put_field(out: &mut [u8], p: usize, width: usize, value: u64)
+    ensures { λ r. ⌜ now (out .exit) ≡ putField (now (out .entry)) p width value ⌝ }
+{
+    if has_room(out.len(), p, width) {
+        let byte = p / 8;
+        let bit = p % 8;
+        put_bits(out, byte, bit, width, value);
+        let end = bit + width;
+        put_bits(out, byte + end / 8, end % 8, (8 - end % 8) % 8, 0);
+    }
 }
