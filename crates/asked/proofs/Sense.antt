@@ -46,6 +46,10 @@ pub told-said : (x : Content) → told (said x) ≡ x
 told-said Null = refl
 told-said (Value n) = refl
 
+pub said-told : (x : e.Content) → said (told x) ≡ x
+said-told null = refl
+said-told (value n) = refl
+
 -- lists
 
 or-left : (a b : Bool) → a ≡ true → (a || b) ≡ true

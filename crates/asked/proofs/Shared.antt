@@ -9,7 +9,7 @@ use lib.Dec.{leb, ltb, eqb}
 use borrow.Author.Tests.{ltb-true, ltb-false, leb-true, leb-false, lt-ltb, le-ltb, le-leb, lt-leb}
 use Rattle.reach.specs.Meaning as e
 use Rattle.reach.specs.Meaning.{Content.null, Content.value, atoms, Sat, Differ}
-use Rattle.reach.specs.Search.{Answers, Apart}
+use Rattle.reach.specs.Search.{Answers, Apart, Parts}
 use Rattle.meaning.specs.declared.Content.{Content}
 use Rattle.meaning.specs.declared.Content.the-variants.{Null, Value}
 use Rattle.lists.specs.Lists.{every, any, All}
@@ -23,7 +23,7 @@ use Rattle.lists.specs.Decides.{Decides}
 use Rattle.asked.specs.Asked.{Ranges, There, Uses, Unlike, three, Both}
 use Rattle.reach.proofs.Core.{clash}
 use Rattle.asked.proofs.Laying.{both, slot-lt, slot-key, slot-column}
-use Rattle.asked.proofs.Sense.{told, said, told-said, and-true, every-append, append-every, sat-met, met-sat}
+use Rattle.asked.proofs.Sense.{told, said, told-said, said-told, and-true, every-append, append-every, sat-met, met-sat}
 
 -- an atom on other numbers
 
@@ -234,6 +234,10 @@ module _ (held : ℕ → Bool) (sheet : Sheet) where
     answered false h = record { yes = λ q. absurd (clash q refl); no = λ q x. h _ (both-sat (λ m. Unit {0}) x) }
 
     module _ (i j : ℕ) (x y : Bool) (u v : ℕ) (tu : There held sheet u) (tv : There held sheet v) (iu : slotOf x u ≡ i) (jv : slotOf y v ≡ j) where
+      seen-there : (d : ℕ → e.Content) (second : Bool) (v : ℕ) → There held sheet v → (k : ℕ) → slotOf second v ≡ k → three (rowOf d) (keysFrom d 16) (keysFrom d 24) k ≡ told (d k)
+      seen-there d second v t k z =
+          ap (three (rowOf d) (keysFrom d 16) (keysFrom d 24)) (sym z) ∙ three-with (rowOf d) (keysFrom d 16) (keysFrom d 24) second v (t .number) ∙ there d second v t ∙ ap (λ (k : ℕ). told (d k)) z
+
       pub told-apart : (r : Bool) → Apart s top i j r → Decides (Both held sheet a b (λ m. Unlike (m i) (m j))) r
       told-apart true h =
           let d = h .0 in
@@ -244,10 +248,6 @@ module _ (held : ℕ → Bool) (sheet : Sheet) where
                 (o .p, o .q, seen-there d x u tu i iu ∙ ap told (o .holds-u), seen-there d y v tv j jv ∙ ap told (o .holds-w), o .differ);
             no = λ q. absurd (clash refl q);
           }
-        where
-          seen-there : (d : ℕ → e.Content) (second : Bool) (v : ℕ) → There held sheet v → (k : ℕ) → slotOf second v ≡ k → three (rowOf d) (keysFrom d 16) (keysFrom d 24) k ≡ told (d k)
-          seen-there d second v t k z =
-              ap (three (rowOf d) (keysFrom d 16) (keysFrom d 24)) (sym z) ∙ three-with (rowOf d) (keysFrom d 16) (keysFrom d 24) second v (t .number) ∙ there d second v t ∙ ap (λ (k : ℕ). told (d k)) z
       told-apart false h =
           record {
             yes = λ q. absurd (clash q refl);
@@ -256,4 +256,21 @@ module _ (held : ℕ → Bool) (sheet : Sheet) where
                 let n = z .also in
                 h (λ v. said (m v))
                 record { sat = both-sat (λ m. Unlike (m i) (m j)) z; p = n .0; q = n .1; holds-u = ap said (n .2); holds-w = ap said (n .3); differ = n .4 };
+          }
+
+      pub told-parted : (r : Bool) → Parts s top i j r → Decides (Both held sheet a b (λ m. m i ≡ m j → ⊥)) r
+      told-parted true h =
+          let d = h .0 in
+          record {
+            yes = λ q.
+                sat-both (λ m. m i ≡ m j → ⊥) d (h .1)
+                (λ z. h .2 (sym (said-told (d i)) ∙ ap said (sym (seen-there d x u tu i iu) ∙ z ∙ seen-there d y v tv j jv) ∙ said-told (d j)));
+            no = λ q. absurd (clash refl q);
+          }
+      told-parted false h =
+          record {
+            yes = λ q. absurd (clash q refl);
+            no = λ q z.
+                let m = three (z .row) (z .one) (z .two) in
+                h (λ v. said (m v)) (both-sat (λ m. m i ≡ m j → ⊥) z) (λ g. z .also (sym (told-said (m i)) ∙ ap told g ∙ told-said (m j)));
           }

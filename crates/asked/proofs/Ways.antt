@@ -39,7 +39,7 @@ words-cut words k n e l =
     let a : length (take k words) ≡ k = length-take-le k words l in
     ap (wordAtoms (take k words)) (let q : length (take k words) / 11 ≡ n = omega arith in q) ∙ words-same n (take k words) words (λ i d. getD-take k words i 0 (omega arith))
 
-one-clause : (s : List ℕ) (c : m.Clause) → wordAtoms s (atoms s) ≡ map (seen false) c → (e : Contents) → clauseMet e (wordAtoms s (atoms s)) ≡ clauseMet e (map (seen false) c ++ map (seen true) [])
+pub one-clause : (s : List ℕ) (c : m.Clause) → wordAtoms s (atoms s) ≡ map (seen false) c → (e : Contents) → clauseMet e (wordAtoms s (atoms s)) ≡ clauseMet e (map (seen false) c ++ map (seen true) [])
 one-clause s c w e = ap (clauseMet e) (w ∙ sym (nil-append (map (seen false) c)))
 
 pub live-told : (words top : List ℕ) (k n : ℕ) (c : m.Clause) (r : Bool) → k ≡ n * 11 → k ≤ length words → wordAtoms words n ≡ map (seen false) c → search.Answers (take k words) top r → Tells top c (λ sheet. LiveClause sheet c) r

@@ -103,11 +103,18 @@ turnedNumber op =
 abbrev pub Laid : List ℕ → ℕ → Clause → Clause → Type 0
 Laid words n a b = wordAtoms words n ≡ map (seen false) a ++ map (seen true) b
 
--- the answer says whether some row meets the laid clauses, with x for the first session and y for the second besides
-abbrev pub TellsBoth : List ℕ → ℕ → List ℕ → Atom → Atom → Bool → Type 0
-TellsBoth words n top x y r =
-    (held : ℕ → Bool) (sheet : Sheet) (a b : Clause) → Laid words n a b → Ranges sheet top → Uses held sheet (a ++ (x ∷ [])) → Uses held sheet (b ++ (y ∷ [])) →
-    Decides (Both held sheet (a ++ (x ∷ [])) (b ++ (y ∷ [])) (λ m. Unit {0})) r
+-- some row with the columns held and some session meet the clause
+pub record Meets (held : ℕ → Bool) (sheet : Sheet) (c : Clause) : Type 0 where
+  pub row : Contents
+  pub session : Contents
+  pub is-row : Holds held (sheet .columns) row
+  pub is-session : IsSession sheet session
+  pub meets : clauseMet (with row session) c ≡ true
+
+-- the answer says whether some row and session meet the clause that is laid for the first session
+abbrev pub TellsMeets : List ℕ → ℕ → List ℕ → Bool → Type 0
+TellsMeets words n top r =
+    (held : ℕ → Bool) (sheet : Sheet) (a : Clause) → wordAtoms words n ≡ map (seen false) a → Ranges sheet top → Uses held sheet a → Decides (Meets held sheet a) r
 
 -- the answer says whether some row meets a with one session and b with a session of another tenant: key 0 is 16 of the one and 24 of the other
 abbrev pub TellsLeak : List ℕ → ℕ → List ℕ → Bool → Type 0

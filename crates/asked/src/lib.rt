@@ -9,9 +9,9 @@ ghost use lib.ListN.{length, getD};
 ghost use Rattle.meaning.specs.Questions.{ClauseCovers, LiveClause};
 ghost use Rattle.meaning.specs.Views.{atomOf, clauseOf, KindsAre};
 ghost use Rattle.asked.specs.Words.{slotOf, upTo8, thirdOf, seen, wordAtoms};
-ghost use Rattle.meaning.specs.Atoms.{equals, is-null, is-not-null};
+ghost use Rattle.meaning.specs.Atoms.{equals, is-null};
 ghost use Rattle.meaning.specs.Steps.{on};
-ghost use Rattle.asked.specs.Asked.{lastOf, kindPlace, Ranges, Tells, Differs, turned, turnedNumber, TellsBoth, TellsLeak};
+ghost use Rattle.asked.specs.Asked.{lastOf, kindPlace, Ranges, Tells, Differs, turned, turnedNumber, TellsMeets, TellsLeak};
 ghost use Rattle.meaning.specs.Sheets.{Sheet};
 use meaning::Atom;
 use meaning::Clause;
@@ -214,46 +214,22 @@ pub fn clause_covers(p: Clause, q: Clause, top: [u64; 32]) -> bool
     true
 }
 
-fn some_of(v: u64) -> Atom
-    ensures { λ r. ⌜ atomOf r ≡ on v is-not-null ⌝ }
+// Do some row and session meet the clause whose n atoms are laid?
+pub fn meets(words: &[u64], n: usize, top: [u64; 32]) -> bool
+    requires { ⌜ (n ≤ 258) × (n * 11 ≤ length (now words)) ⌝ }
+    ensures { λ r. ⌜ TellsMeets (now (words .entry)) n top r ⌝ }
 {
-    Atom {
-        variable: v,
-        operator: 8,
-        other: 0,
-        count: 0,
-        values: [0u64; 8],
-    }
-}
-
-// Does some row meet the laid clauses, with x for the first session and y for the second besides?
-fn meets_with(words: &mut [u64], n: usize, x: Atom, y: Atom, top: [u64; 32]) -> bool
-    requires { ⌜ (n ≤ 256) × (n * 11 + 22 ≤ length (now words)) ⌝ }
-    ensures kept { λ r. ⌜ wordAtoms (now (words .exit)) n ≡ wordAtoms (now (words .entry)) n ⌝ }
-    ensures told { λ r. ⌜ TellsBoth (now (words .entry)) n top (atomOf x) (atomOf y) r ⌝ }
-{
-    lay_atom(words, n, x, false);
-    lay_atom(words, n + 1, y, true);
-    let m = n * 11 + 22;
+    let m = n * 11;
     reach::satisfiable(&words[..m], top)
 }
 
 // Does some row meet the first of the laid clauses with one session and the second with a session of another tenant?
-pub fn leaks(words: &mut [u64], n: usize, top: [u64; 32]) -> bool
-    requires { ⌜ (n ≤ 256) × (n * 11 + 22 ≤ length (now words)) ⌝ }
+pub fn leaks(words: &[u64], n: usize, top: [u64; 32]) -> bool
+    requires { ⌜ (n ≤ 258) × (n * 11 ≤ length (now words)) ⌝ }
     ensures { λ r. ⌜ TellsLeak (now (words .entry)) n top r ⌝ }
 {
-    if meets_with(words, n, null_of(16), some_of(16), top) {
-        return true;
-    }
-    if meets_with(words, n, some_of(16), null_of(16), top) {
-        return true;
-    }
     let m = n * 11;
-    if reach::apart(&words[..m], top, 16, 24) {
-        return true;
-    }
-    false
+    reach::parted(&words[..m], top, 16, 24)
 }
 
 // The last value of a kind by its number.

@@ -3,7 +3,7 @@ use Prim.Native.Nat.{ℕ, _+_, _*_, _-_, _≤_, _<_, _^_}
 use mathlib.Core.Path.{_≡_}
 use mathlib.Core.Bool.{Bool, true, false}
 use mathlib.Core.List.{List, [], _∷_}
-use lib.ListN.{length, getD}
+use lib.ListN.{length, getD, set, replicate}
 use lib.Dec.{eqb}
 use Rattle.reach.specs.Meaning.{Test, Content, Content.null, Content.value, Sat, allows, wants, passes, varAt, otherAt, opAt, testAt, atoms, Ordered, Differ}
 use Rattle.reach.specs.declared.Found.{Found}
@@ -78,11 +78,12 @@ pub record Asks (need0 floor : List ℕ) (e : ℕ → Content) : Type 0 where
   pub needed : (v : ℕ) → v < 32 → (getD need0 v 0 ≡ 0 → ⊥) → e v ≡ null → ⊥
   pub above : (v n : ℕ) → v < 32 → e v ≡ value n → getD floor v 0 ≤ n
 
--- the least solution, or that there is none
+-- the least solution, or that there is none. It is null wherever a solution can be: what it has non-null is surely non-null
 pub record Solves (s top need0 floor : List ℕ) (r : Solved) : Type 0 where
   pub sat : r .ok ≡ true → Sat s top (contents (r .need) (r .x))
   pub asks : r .ok ≡ true → Asks need0 floor (contents (r .need) (r .x))
   pub least : r .ok ≡ true → (e : ℕ → Content) → Sat s top e → Asks need0 floor e → (v n : ℕ) → v < 32 → e v ≡ value n → getD (r .x) v 0 ≤ n
+  pub surely : r .ok ≡ true → (v : ℕ) → v < 32 → (getD (r .need) v 0 ≡ 0 → ⊥) → (e : ℕ → Content) → Sat s top e → Asks need0 floor e → e v ≡ null → ⊥
   pub none : r .ok ≡ false → (e : ℕ → Content) → Sat s top e → Asks need0 floor e → ⊥
 
 -- yes exactly where some contents meet the conjunction
@@ -99,3 +100,22 @@ Lesser s top u w false = (e : ℕ → Content) → Ordered s top u w e → ⊥
 abbrev pub Apart : List ℕ → List ℕ → ℕ → ℕ → Bool → Type 0
 Apart s top u w true = (e : ℕ → Content) × Differ s top u w e
 Apart s top u w false = (e : ℕ → Content) → Differ s top u w e → ⊥
+
+-- the least solution in which neither u nor w is null
+pub record Lowest (s top : List ℕ) (u w : ℕ) (r : Solved) : Type 0 where
+  pub solves : Solves s top (set (set (replicate 32 0) u 1) w 1) (replicate 32 0) r
+  pub ok : r .ok ≡ true
+
+-- u and w hold the same wherever the conjunction is met
+abbrev pub Tied : List ℕ → ℕ → ℕ → Type 0
+Tied s u w = (e : ℕ → Content) → ((i : ℕ) → i < atoms s → Met s i e) → e u ≡ e w
+
+-- yes exactly where some contents meet the conjunction with u null and w not
+abbrev pub NullBeside : List ℕ → List ℕ → ℕ → ℕ → Bool → Type 0
+NullBeside s top u w true = (e : ℕ → Content) × Sat s top e × (e u ≡ null) × (e w ≡ null → ⊥)
+NullBeside s top u w false = (e : ℕ → Content) → Sat s top e → e u ≡ null → (e w ≡ null → ⊥) → ⊥
+
+-- yes exactly where some contents meet the conjunction with u and w different, null counted as one more value
+abbrev pub Parts : List ℕ → List ℕ → ℕ → ℕ → Bool → Type 0
+Parts s top u w true = (e : ℕ → Content) × Sat s top e × (e u ≡ e w → ⊥)
+Parts s top u w false = (e : ℕ → Content) → Sat s top e → (e u ≡ e w → ⊥) → ⊥

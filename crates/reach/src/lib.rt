@@ -4,10 +4,11 @@
 // The search goes by classes of equal variables, and gathers the struck-out values of a class before it looks ("f not in [0] and f not in [1]:
 // dropped"); no contract above it says so. Stands on no other crate.
 ghost use mathlib.Core.Path.{_≡_};
+ghost use mathlib.Core.Bool.{true};
 ghost use Prim.Native.Nat.{ℕ, _+_, _*_, _/_, _%_, _≤_, _<_, _^_};
 ghost use lib.ListN.{length, getD};
 ghost use Rattle.reach.specs.Meaning.{Test, wants, testAt, varAt};
-ghost use Rattle.reach.specs.Search.{Larger, Stepped, Best, mateAt, Needs, Settles, Within, Solves, Answers, Lesser, Apart};
+ghost use Rattle.reach.specs.Search.{Larger, Stepped, Best, mateAt, Needs, Settles, Within, Solves, Answers, Lesser, Apart, Lowest, Tied, NullBeside, Parts};
 ghost use Rattle.reach.specs.Classes.{renamed, Renames, Classes, Strikes, Added, LeastOf, Marks, FirstFree, Looked, Highest, Closed};
 
 pub enum Found {
@@ -409,8 +410,8 @@ fn class_floor(rep: [u64; 32], floor: [u64; 32], r: u64) -> u64
     h
 }
 
-// The same as settle, class by class.
-fn settle_classes(s: &[u64], need: [u64; 32], floor: [u64; 32]) -> Settled
+// The least value of each class of needed variables.
+fn settle(s: &[u64], need: [u64; 32], floor: [u64; 32]) -> Settled
     requires { ⌜ (length (now s) / 11 ≤ 258) × Closed (now s) need ⌝ }
     ensures { λ r. ⌜ Settles (now (s .entry)) need floor r ⌝ }
 {
@@ -438,13 +439,13 @@ fn settle_classes(s: &[u64], need: [u64; 32], floor: [u64; 32]) -> Settled
     Settled { ok: true, x }
 }
 
-// The same as solve, class by class.
-pub fn solve_classes(s: &[u64], top: [u64; 32], need0: [u64; 32], floor: [u64; 32]) -> Solved
+// The least solution of the conjunction s, null wherever it can be: within 0..=top, non-null where need0 is not 0, and nowhere under floor.
+pub fn solve(s: &[u64], top: [u64; 32], need0: [u64; 32], floor: [u64; 32]) -> Solved
     requires { ⌜ length (now s) / 11 ≤ 258 ⌝ }
     ensures { λ r. ⌜ Solves (now (s .entry)) top need0 floor r ⌝ }
 {
     let need = needs(s, need0);
-    let r = settle_classes(s, need, floor);
+    let r = settle(s, need, floor);
     let x = r.x;
     let ok = r.ok;
     if ok {
@@ -456,7 +457,7 @@ pub fn solve_classes(s: &[u64], top: [u64; 32], need0: [u64; 32], floor: [u64; 3
     Solved { ok: false, need, x }
 }
 
-// --- what is asked
+// --- what is asked, from the promise of the least solution alone
 
 // Is there a row with sessions that meets the conjunction?
 pub fn satisfiable(s: &[u64], top: [u64; 32]) -> bool
@@ -464,9 +465,63 @@ pub fn satisfiable(s: &[u64], top: [u64; 32]) -> bool
     ensures { λ r. ⌜ Answers (now (s .entry)) top r ⌝ }
 {
     let none = [0u64; 32];
-    let r = solve_classes(s, top, none, none);
+    let r = solve(s, top, none, none);
     let ok = r.ok;
     if ok { true } else { false }
+}
+
+// Do equalities tie u to w?
+fn tied(s: &[u64], u: usize, w: usize) -> bool
+    requires { ⌜ (u < 32) × (w < 32) ⌝ }
+    ensures { λ r. ⌜ (r ≡ true → Tied (now (s .entry)) u w) ⌝ }
+{
+    let rep = classes_of(s);
+    rep[u] == rep[w]
+}
+
+// Can w rise above a, the least value of u, where u holds less?
+fn rises(s: &[u64], top: [u64; 32], u: usize, w: usize, a: u64) -> bool
+    requires { ⌜ (u < 32) × (w < 32) × (length (now s) / 11 ≤ 258) ⌝ }
+    ensures { λ r. ⌜ ((low : Solved) → Lowest (now (s .entry)) top u w low → getD (low .x) u 0 ≡ a → Lesser (now (s .entry)) top u w r) ⌝ }
+{
+    if 18446744073709551615 <= a {
+        return false;
+    }
+    let mut need = [0u64; 32];
+    need[u] = 1;
+    need[w] = 1;
+    let mut floor = [0u64; 32];
+    floor[w] = a + 1;
+    let high = solve(s, top, need, floor);
+    let found = high.ok;
+    if found {
+        let y = high.x;
+        if y[u] < y[w] {
+            return true;
+        }
+        return false;
+    }
+    false
+}
+
+// Do u and w ever differ, where their least values are a and b?
+fn splits(s: &[u64], top: [u64; 32], u: usize, w: usize, a: u64, b: u64) -> bool
+    requires { ⌜ (u < 32) × (w < 32) × (length (now s) / 11 ≤ 258) ⌝ }
+    ensures { λ r. ⌜ ((low : Solved) → Lowest (now (s .entry)) top u w low → getD (low .x) u 0 ≡ a → getD (low .x) w 0 ≡ b → Apart (now (s .entry)) top u w r) ⌝ }
+{
+    if a == b {
+        if tied(s, u, w) {
+            return false;
+        }
+        if rises(s, top, u, w, a) {
+            return true;
+        }
+        if rises(s, top, w, u, b) {
+            return true;
+        }
+        return false;
+    }
+    true
 }
 
 // Is there one in which u holds less than w?
@@ -478,26 +533,11 @@ pub fn less(s: &[u64], top: [u64; 32], u: usize, w: usize) -> bool
     let mut need = [0u64; 32];
     need[u] = 1;
     need[w] = 1;
-    let low = solve_classes(s, top, need, none);
+    let low = solve(s, top, need, none);
     let ok = low.ok;
     if ok {
         let x = low.x;
-        let a = x[u];
-        if 18446744073709551615 <= a {
-            return false;
-        }
-        let mut floor = [0u64; 32];
-        floor[w] = a + 1;
-        let high = solve_classes(s, top, need, floor);
-        let found = high.ok;
-        if found {
-            let y = high.x;
-            if y[u] < y[w] {
-                return true;
-            }
-            return false;
-        }
-        return false;
+        return rises(s, top, u, w, x[u]);
     }
     false
 }
@@ -507,11 +547,80 @@ pub fn apart(s: &[u64], top: [u64; 32], u: usize, w: usize) -> bool
     requires { ⌜ (u < 32) × (w < 32) × (length (now s) / 11 ≤ 258) ⌝ }
     ensures { λ r. ⌜ Apart (now (s .entry)) top u w r ⌝ }
 {
-    if less(s, top, u, w) {
+    let none = [0u64; 32];
+    let mut need = [0u64; 32];
+    need[u] = 1;
+    need[w] = 1;
+    let low = solve(s, top, need, none);
+    let ok = low.ok;
+    if ok {
+        let x = low.x;
+        return splits(s, top, u, w, x[u], x[w]);
+    }
+    false
+}
+
+// Is there one in which u is null and w is not?
+fn beside_null(s: &[u64], top: [u64; 32], u: usize, w: usize) -> bool
+    requires { ⌜ (u < 32) × (w < 32) × (length (now s) / 11 ≤ 258) ⌝ }
+    ensures { λ r. ⌜ NullBeside (now (s .entry)) top u w r ⌝ }
+{
+    let none = [0u64; 32];
+    let mut need = [0u64; 32];
+    need[w] = 1;
+    let r = solve(s, top, need, none);
+    let ok = r.ok;
+    if ok {
+        let wants = r.need;
+        if wants[u] == 0 {
+            return true;
+        }
+        return false;
+    }
+    false
+}
+
+// Is there one in which u and w differ, either of which may be null?
+fn differ_with_null(s: &[u64], top: [u64; 32], u: usize, w: usize) -> bool
+    requires { ⌜ (u < 32) × (w < 32) × (length (now s) / 11 ≤ 258) ⌝ }
+    ensures { λ r. ⌜ Parts (now (s .entry)) top u w r ⌝ }
+{
+    if beside_null(s, top, u, w) {
         return true;
     }
-    if less(s, top, w, u) {
+    if beside_null(s, top, w, u) {
         return true;
+    }
+    if apart(s, top, u, w) {
+        return true;
+    }
+    false
+}
+
+// Is there one in which u and w differ, null counted as one more value? The least solution often tells by itself.
+pub fn parted(s: &[u64], top: [u64; 32], u: usize, w: usize) -> bool
+    requires { ⌜ (u < 32) × (w < 32) × (length (now s) / 11 ≤ 258) ⌝ }
+    ensures { λ r. ⌜ Parts (now (s .entry)) top u w r ⌝ }
+{
+    let none = [0u64; 32];
+    let low = solve(s, top, none, none);
+    let ok = low.ok;
+    if ok {
+        let wants = low.need;
+        let x = low.x;
+        if wants[u] == 0 {
+            if wants[w] == 0 {
+                return differ_with_null(s, top, u, w);
+            }
+            return true;
+        }
+        if wants[w] == 0 {
+            return true;
+        }
+        if splits(s, top, u, w, x[u], x[w]) {
+            return true;
+        }
+        return false;
     }
     false
 }

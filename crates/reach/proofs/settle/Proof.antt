@@ -4,10 +4,10 @@ use native.Mathlib.Omega.{arith}
 use mathlib.Core.Path.{_≡_}
 use lib.ListN.{length, length-set}
 use Rattle.reach.proofs.Chosen.{Choosing, choosing-none, choosing-skip, choosing-stuck, choosing-add, choices-no, choices-yes}
-use Rattle.reach.proofs.settle_classes.Statement.{statement}
-use Rattle.reach.proofs.settle_classes.Tie as tie
-use Rattle.reach.proofs.settle_classes.Reads as reads
-use Rattle.reach.proofs.settle_classes.Lts as lts
+use Rattle.reach.proofs.settle.Statement.{statement}
+use Rattle.reach.proofs.settle.Tie as tie
+use Rattle.reach.proofs.settle.Reads as reads
+use Rattle.reach.proofs.settle.Lts as lts
 use Rattle.reach.proofs.class_floor.Reads as class-floor-reads
 use Rattle.reach.proofs.classes_of.Reads as classes-of-reads
 use Rattle.reach.proofs.least_class.Reads as least-class-reads
@@ -88,8 +88,8 @@ returns-2 c =
     let l = c .before .loop in
     choices-yes _ _ _ _ (c .before .before .classes-of .ensures) (l .x) (l .v) (omega arith) (c .before .before .before .before .pre .1) (l .inv .2)
 
-pub settle-classes-spec : {M : Type 1} → statement M
-settle-classes-spec =
+pub settle-spec : {M : Type 1} → statement M
+settle-spec =
     tie.close
     (tie.spec
     Inv-loop

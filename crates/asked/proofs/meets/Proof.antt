@@ -1,0 +1,28 @@
+-- The words of the n atoms are lent, and the answer is told of the clauses that they lay.
+use Prim.Native.Nat.{_*_}
+use native.Mathlib.Omega.{arith}
+use mathlib.Core.Path.{refl, sym}
+use lib.Seq.{length-take-le}
+use Rattle.asked.proofs.Ways.{few-atoms}
+use Rattle.asked.proofs.Tenants.{meets-told}
+use borrow.Author.Needs.{needs}
+use Rattle.asked.proofs.meets.Statement.{statement}
+use Rattle.asked.proofs.meets.Tie as tie
+use Rattle.asked.proofs.meets.Reads as reads
+use Rattle.asked.proofs.meets.Lts as lts
+use Rattle.reach.proofs.satisfiable.Reads as satisfiable-reads
+
+mul-m : tie.Need-mul-m
+mul-m c = search needs
+
+slice-aggregate-satisfiable : tie.Need-slice-aggregate-satisfiable
+slice-aggregate-satisfiable c = sym (length-take-le _ _ (search needs))
+
+satisfiable-requires : tie.Need-satisfiable-requires
+satisfiable-requires c κs = few-atoms (c .before .before .args .n * 11) (c .before .before .args .words .now) (let q = c .before .before .pre .0 in omega arith)
+
+returns : tie.Need-returns
+returns c = meets-told (c .before .before .before .args .words .now) _ (c .before .before .before .args .n) _ _ refl (search needs) (c .satisfiable .ensures)
+
+pub meets-spec : {M : Type 1} → statement M
+meets-spec = tie.close (tie.spec mul-m slice-aggregate-satisfiable satisfiable-requires returns)
