@@ -7,7 +7,9 @@ fn main() {
     println!("cargo:rerun-if-env-changed=FIDDLECOMET_LIB");
     let folder = match std::env::var_os("FIDDLECOMET_LIB") {
         Some(folder) => PathBuf::from(folder),
-        None => PathBuf::from(std::env::var_os("CARGO_MANIFEST_DIR").expect("set by cargo")).join("../target/staticlib"),
+        None => {
+            PathBuf::from(std::env::var_os("CARGO_MANIFEST_DIR").expect("set by cargo")).join("../target/staticlib")
+        }
     };
     let archive = folder.join("libfiddlecomet.a");
     println!("cargo:rerun-if-changed={}", archive.display());

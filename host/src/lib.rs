@@ -2,6 +2,9 @@
 //! the library called and compared, PostgreSQL asked the same.
 
 pub mod cases;
+pub mod compare;
+pub mod library;
 pub mod making;
+pub mod postgres;
 pub mod question;
 pub mod reading;

@@ -17,7 +17,12 @@ fn the_reading_gives_every_reply() {
                     let read = Reading.answer(question);
                     (read != *reply).then(|| {
                         let words = format::question_words(question);
-                        format!("{}\n  got {}\n  for {}", &words[..words.len().min(400)], format::reply_words(question, &read), format::reply_words(question, reply))
+                        format!(
+                            "{}\n  got {}\n  for {}",
+                            &words[..words.len().min(400)],
+                            format::reply_words(question, &read),
+                            format::reply_words(question, reply)
+                        )
                     })
                 }
                 Asked::Printed(sheet, text) => (printed(sheet) != *text).then(|| printed(sheet)),

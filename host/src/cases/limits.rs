@@ -8,7 +8,8 @@ use crate::reading::sheet::{Clause, Kind, Selector, Sheet, Test};
 
 /// One table of one column and a policy with something of everything.
 pub fn sample() -> Sheet {
-    let selector = or(and(Selector::HasColumn(0), not(Selector::Tag(7))), or(Selector::InSchema(5), Selector::Table(0)));
+    let selector =
+        or(and(Selector::HasColumn(0), not(Selector::Tag(7))), or(Selector::InSchema(5), Selector::Table(0)));
     let first = vec![equal(col(1), key(0)), within(col(2), &[1]), is(col(0), Test::Below(10))];
     let second = vec![is(key(1), Test::IsNull), without(col(1), &[3, 4]), is(col(0), Test::IsNotNull)];
     sheet(&[Integer, Token, Boolean], &[Token, Integer])
@@ -20,8 +21,9 @@ pub fn sample() -> Sheet {
 /// A sheet cut at a byte always lacks a field: 2.
 pub fn truncated() -> Vec<Case> {
     let whole = pack::sheet(&sample());
-    let mut cases: Vec<Case> =
-        (0..whole.len()).map(|length| reads(&format!("2 cut behind {length} bytes"), whole[..length].to_vec(), 2)).collect();
+    let mut cases: Vec<Case> = (0..whole.len())
+        .map(|length| reads(&format!("2 cut behind {length} bytes"), whole[..length].to_vec(), 2))
+        .collect();
     cases.push(branches("whole: two clauses by two", whole.clone(), (0, 0), [0, 4]));
     cases.push(branches("whole: UPDATE has two", whole.clone(), (0, 2), [0, 2]));
     cases.push(branches("whole: INSERT has none", whole, (0, 1), [0, 0]));
@@ -52,7 +54,8 @@ pub fn cases() -> Vec<Case> {
 fn counts() -> Vec<Case> {
     let none = |name: &str, sheet: Sheet| branches(name, pack::sheet(&sheet), (0, 0), [0, 0]);
     let atoms = |count: usize| vec![is(key(0), Test::IsNotNull); count];
-    let list = |count| pack::sheet(&header(1, 1, 1).permit("S", Selector::All, &[vec![within(col(0), &vec![1; count])]]));
+    let list =
+        |count| pack::sheet(&header(1, 1, 1).permit("S", Selector::All, &[vec![within(col(0), &vec![1; count])]]));
     let nine = Raw::header(1, 1, 1, 1, 1).kinds(&[0, 2]).table(0x8000).policy(0, 8).node(0).count(1).count(1);
     let nine = (0..9).fold(nine.variable(0).operator(1).count(9), |raw, _| raw.value(1));
     vec![
@@ -78,7 +81,12 @@ fn depths() -> Vec<Case> {
         branches("depth one: a lone leaf", deep(nested(0)), (0, 0), [0, 1]),
         branches("depth two: not all", deep(nested(1)), (0, 0), [0, 0]),
         branches("depth six: a leaf under five nots", deep(nested(5)), (0, 0), [0, 0]),
-        branches("depth six on the right of ands", deep((0..5).fold(Selector::All, |s, _| and(Selector::All, s))), (0, 0), [0, 1]),
+        branches(
+            "depth six on the right of ands",
+            deep((0..5).fold(Selector::All, |s, _| and(Selector::All, s))),
+            (0, 0),
+            [0, 1],
+        ),
         reads("9 depth seven: a leaf under six nots", deep(nested(6)), 9),
         reads("9 depth seven on the right", deep((0..6).fold(Selector::All, |s, _| and(Selector::All, s))), 9),
         branches("schema 63 asked for, 0 had", deep(Selector::InSchema(63)), (0, 0), [0, 0]),
@@ -91,7 +99,11 @@ fn values() -> Vec<Case> {
     let ends = |kind: Kind| {
         let (least, greatest) = kind.range();
         let one = sheet(&[kind], &[kind]).full_table();
-        (one.permit("S", Selector::All, &[vec![within(col(0), &[least, greatest]), equal(col(0), key(0))]]), least, greatest)
+        (
+            one.permit("S", Selector::All, &[vec![within(col(0), &[least, greatest]), equal(col(0), key(0))]]),
+            least,
+            greatest,
+        )
     };
     let listed = |name: &str, kind: Kind| {
         let (sheet, least, greatest) = ends(kind);
@@ -183,11 +195,22 @@ pub fn large() -> Vec<Case> {
     let packed = pack::sheet(&full);
     let one_more = pack::sheet(&sheet_of(16_385));
     let clauses: u64 = full.policies.iter().map(|policy| policy.clauses.len() as u64).sum();
-    let open = pack::sheet(&sheet(&[Integer], &[Token]).full_table().permit("S", Selector::All, &[vec![is(col(0), Test::IsNull)]]));
+    let open = pack::sheet(&sheet(&[Integer], &[Token]).full_table().permit(
+        "S",
+        Selector::All,
+        &[vec![is(col(0), Test::IsNull)]],
+    ));
     let row = pack::contents(&[Some(5)]);
     let null = pack::contents(&[None]);
     let rows = |bytes: usize| [row.repeat(bytes / 9), null.repeat(bytes % 9)].concat();
-    let list = |bytes: usize, room: usize| Wanted { sheet: open.clone(), table: 0, command: 0, session: vec![0], rows: rows(bytes), room };
+    let list = |bytes: usize, room: usize| Wanted {
+        sheet: open.clone(),
+        table: 0,
+        command: 0,
+        session: vec![0],
+        rows: rows(bytes),
+        room,
+    };
     vec![
         branches("a sheet of 16,384 bytes", packed.clone(), (0, 0), [0, clauses]),
         covers("a sheet of 16,384 bytes covers itself", packed, (0, 0), [0, 1]),

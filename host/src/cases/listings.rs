@@ -81,9 +81,11 @@ fn policies() -> Vec<Case> {
     let guarded = open().restrict("S", Selector::All, &[vec![equal(TENANT, SESSION)]]);
     let guarded = Sheet { tables: licences().tables[..2].to_vec(), ..guarded };
     let unlocked = |sheet: Sheet| sheet.restrict("S", Selector::HasColumn(2), &[vec![within(LOCKED, &[0])]]);
-    let two = licences()
-        .permit("S", Selector::Table(0), &[vec![within(TENANT, &[8])]])
-        .permit("S", Selector::Table(0), &[vec![within(TENANT, &[9])]]);
+    let two = licences().permit("S", Selector::Table(0), &[vec![within(TENANT, &[8])]]).permit(
+        "S",
+        Selector::Table(0),
+        &[vec![within(TENANT, &[9])]],
+    );
     let update = licences().permit("U", Selector::Table(0), &[vec![]]);
     vec![
         wanted(&guarded, seven).lists("a restrictive policy beside an open one", &admitted(&[0, 2, 4])),
@@ -92,7 +94,8 @@ fn policies() -> Vec<Case> {
         wanted(&open().restrict("S", Selector::All, &[]), seven).lists("a restrictive policy without clauses", &[]),
         wanted(&licences().restrict("S", Selector::All, &[vec![]]), seven).lists("no permissive policy", &[]),
         wanted(&update, seven).lists("a policy for UPDATE says nothing of SELECT", &[]),
-        Wanted { command: 2, ..wanted(&update, seven) }.lists("a policy for UPDATE under UPDATE", &admitted(&[0, 1, 2, 3, 4, 5])),
+        Wanted { command: 2, ..wanted(&update, seven) }
+            .lists("a policy for UPDATE under UPDATE", &admitted(&[0, 1, 2, 3, 4, 5])),
         wanted(&licences(), seven).lists("no policy at all", &[]),
     ]
 }
@@ -105,7 +108,8 @@ fn buffers() -> Vec<Case> {
     let narrow = Wanted { table: 1, rows: names.concat(), room: 100, ..good.clone() };
     let none = Wanted { table: 2, rows: vec![], room: 5, ..good.clone() };
     vec![
-        Wanted { room: good.room + 40, ..good.clone() }.lists("output beyond the length is left as found", &admitted(&[0, 2, 4])),
+        Wanted { room: good.room + 40, ..good.clone() }
+            .lists("output beyond the length is left as found", &admitted(&[0, 2, 4])),
         Wanted { rows: vec![], room: 0, ..good.clone() }.lists("no rows, no room", &[]),
         narrow.lists("a table that holds one column", &names[1..2]),
         none.lists("a table that holds no column, the empty list", &[]),

@@ -56,66 +56,104 @@ fn single() -> Vec<Case> {
             &[within(X, &[1, 2, 3, 4]), within(Y, &[9]), within(X, &[4, 3, 2]), within(X, &[3, 4, 5])],
             &[within(X, &[3, 4]), within(Y, &[9])],
         ),
-        atoms("3 in-lists of equal variables stay two, the implied one goes", &[equal(X, Y), within(X, &[1, 2]), within(Y, &[2, 3])], &[
-            equal(X, Y),
-            within(X, &[1, 2]),
-            within(Y, &[2, 3]),
-        ]),
-        atoms("3 not-in lists do not become one", &[without(X, &[2]), without(X, &[1])], &[without(X, &[1]), without(X, &[2])]),
-        atoms("4 by bits -1 stands behind 2", &[without(X, &[-1]), without(X, &[2])], &[without(X, &[2]), without(X, &[-1])]),
-        atoms("4 by variable, then by operator", &[some(T), within(F, &[1]), equal(X, Y), is(Z, Test::IsNull)], &[
-            equal(X, Y),
-            is(Z, Test::IsNull),
-            within(F, &[1]),
-            some(T),
-        ]),
-        atoms("5 a longer list of strikes implies a shorter one", &[without(X, &[1]), without(X, &[2, 1])], &[without(X, &[1, 2])]),
+        atoms(
+            "3 in-lists of equal variables stay two, the implied one goes",
+            &[equal(X, Y), within(X, &[1, 2]), within(Y, &[2, 3])],
+            &[equal(X, Y), within(X, &[1, 2]), within(Y, &[2, 3])],
+        ),
+        atoms(
+            "3 not-in lists do not become one",
+            &[without(X, &[2]), without(X, &[1])],
+            &[without(X, &[1]), without(X, &[2])],
+        ),
+        atoms(
+            "4 by bits -1 stands behind 2",
+            &[without(X, &[-1]), without(X, &[2])],
+            &[without(X, &[2]), without(X, &[-1])],
+        ),
+        atoms(
+            "4 by variable, then by operator",
+            &[some(T), within(F, &[1]), equal(X, Y), is(Z, Test::IsNull)],
+            &[equal(X, Y), is(Z, Test::IsNull), within(F, &[1]), some(T)],
+        ),
+        atoms(
+            "5 a longer list of strikes implies a shorter one",
+            &[without(X, &[1]), without(X, &[2, 1])],
+            &[without(X, &[1, 2])],
+        ),
         atoms("5 x in [4] implies x at most 9", &[at_most(X, 9), within(X, &[4])], &[within(X, &[4])]),
         atoms("5 the lower of two bounds stays", &[at_most(X, 7), at_most(X, 5)], &[at_most(X, 5)]),
         atoms("5 at most -1 stays, though it stands behind", &[at_most(X, 5), at_most(X, -1)], &[at_most(X, -1)]),
-        atoms("a range of one value does not become a list", &[at_least(X, 4), at_most(X, 4)], &[at_most(X, 4), at_least(X, 4)]),
-        atoms("a list and a bound do not become one", &[at_least(X, 2), within(X, &[1, 2, 3])], &[within(X, &[1, 2, 3]), at_least(X, 2)]),
-        atoms("5 of three equalities the last goes", &[equal(Y, Z), equal(X, Z), equal(X, Y)], &[equal(X, Y), equal(X, Z)]),
+        atoms(
+            "a range of one value does not become a list",
+            &[at_least(X, 4), at_most(X, 4)],
+            &[at_most(X, 4), at_least(X, 4)],
+        ),
+        atoms(
+            "a list and a bound do not become one",
+            &[at_least(X, 2), within(X, &[1, 2, 3])],
+            &[within(X, &[1, 2, 3]), at_least(X, 2)],
+        ),
+        atoms(
+            "5 of three equalities the last goes",
+            &[equal(Y, Z), equal(X, Z), equal(X, Y)],
+            &[equal(X, Y), equal(X, Z)],
+        ),
         atoms("5 is not null is implied by any atom", &[some(X), within(X, &[1, 2])], &[within(X, &[1, 2])]),
         atoms("5 is not null is implied by an equality", &[some(Y), equal(X, Y), some(X)], &[equal(X, Y)]),
-        atoms("5 y in [4] is implied by x = y and x in [4]", &[within(Y, &[4]), within(X, &[4]), equal(X, Y)], &[
-            equal(X, Y),
-            within(X, &[4]),
-        ]),
+        atoms(
+            "5 y in [4] is implied by x = y and x in [4]",
+            &[within(Y, &[4]), within(X, &[4]), equal(X, Y)],
+            &[equal(X, Y), within(X, &[4])],
+        ),
         atoms("5 f not in [0] is implied by f in [1]", &[without(F, &[0]), within(F, &[1])], &[within(F, &[1])]),
         atoms("f in [0, 1] stays and implies f is not null", &[some(F), within(F, &[1, 0])], &[within(F, &[0, 1])]),
         atoms("f in [1] does not become f is not null", &[within(F, &[1])], &[within(F, &[1])]),
         atoms("5 a bound beside a struck end", &[at_least(X, 3), without(X, &[2])], &[at_least(X, 3)]),
-        atoms("5 two strikes imply nothing of a third", &[without(X, &[1]), without(X, &[3]), at_most(X, 3)], &[
-            without(X, &[1]),
-            without(X, &[3]),
-            at_most(X, 3),
-        ]),
-        atoms("5 through an equality: y at most 9 from x at most 5", &[equal(X, Y), at_most(Y, 9), at_most(X, 5)], &[
-            equal(X, Y),
-            at_most(X, 5),
-        ]),
+        atoms(
+            "5 two strikes imply nothing of a third",
+            &[without(X, &[1]), without(X, &[3]), at_most(X, 3)],
+            &[without(X, &[1]), without(X, &[3]), at_most(X, 3)],
+        ),
+        atoms(
+            "5 through an equality: y at most 9 from x at most 5",
+            &[equal(X, Y), at_most(Y, 9), at_most(X, 5)],
+            &[equal(X, Y), at_most(X, 5)],
+        ),
     ]
 }
 
 /// Steps 1 and 6.
 fn several() -> Vec<Case> {
     vec![
-        clauses("1 the clause that nobody meets goes", &[vec![is(X, Test::IsNull), some(X)], vec![within(X, &[1])]], &[vec![within(X, &[1])]]),
+        clauses(
+            "1 the clause that nobody meets goes",
+            &[vec![is(X, Test::IsNull), some(X)], vec![within(X, &[1])]],
+            &[vec![within(X, &[1])]],
+        ),
         clauses("1 two lists without a common value", &[vec![within(X, &[1]), within(X, &[2])]], &[]),
-        clauses("6 [1] is covered by [1, 2]", &[vec![within(X, &[1, 2])], vec![within(X, &[1])]], &[vec![within(X, &[1, 2])]]),
+        clauses(
+            "6 [1] is covered by [1, 2]",
+            &[vec![within(X, &[1, 2])], vec![within(X, &[1])]],
+            &[vec![within(X, &[1, 2])]],
+        ),
         clauses("6 a clause without atoms covers all", &[vec![within(X, &[1])], vec![], vec![some(Y)]], &[vec![]]),
         clauses("6 equal clauses, once", &[vec![some(X)], vec![equal(X, X)], vec![some(X)]], &[vec![some(X)]]),
-        clauses("6 fewer atoms stand first", &[vec![within(X, &[1]), some(Y)], vec![within(Z, &[9])]], &[
-            vec![within(Z, &[9])],
-            vec![within(X, &[1]), some(Y)],
-        ]),
-        clauses("6 by bits", &[vec![some(Y)], vec![is(X, Test::IsNull)], vec![some(X)]], &[
-            vec![is(X, Test::IsNull)],
-            vec![some(X)],
-            vec![some(Y)],
-        ]),
-        clauses("6 two halves do not cover the whole", &[vec![at_most(X, 5)], vec![at_least(X, 6)], vec![some(X)]], &[vec![some(X)]]),
+        clauses(
+            "6 fewer atoms stand first",
+            &[vec![within(X, &[1]), some(Y)], vec![within(Z, &[9])]],
+            &[vec![within(Z, &[9])], vec![within(X, &[1]), some(Y)]],
+        ),
+        clauses(
+            "6 by bits",
+            &[vec![some(Y)], vec![is(X, Test::IsNull)], vec![some(X)]],
+            &[vec![is(X, Test::IsNull)], vec![some(X)], vec![some(Y)]],
+        ),
+        clauses(
+            "6 two halves do not cover the whole",
+            &[vec![at_most(X, 5)], vec![at_least(X, 6)], vec![some(X)]],
+            &[vec![some(X)]],
+        ),
         clauses(
             "6 of two that cover each other the earlier by bits stays",
             &[vec![at_least(X, 4), at_most(X, 4)], vec![within(X, &[4])]],

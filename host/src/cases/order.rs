@@ -19,14 +19,26 @@ fn within_fields() -> Vec<Case> {
     vec![
         reads("5 before 6: variable 24 is no key 8", behind(to_atom().variable(24).operator(0)), 5),
         reads("5 before 7: operator 9 on a boolean", behind(to_atom().variable(17).operator(9)), 5),
-        reads("6 before 7: a right side not there, its kind unknown", behind(to_atom().variable(1).operator(0).variable(5)), 6),
+        reads(
+            "6 before 7: a right side not there, its kind unknown",
+            behind(to_atom().variable(1).operator(0).variable(5)),
+            6,
+        ),
         reads("5 before 7: a right side of 31", behind(to_atom().variable(1).operator(0).variable(31)), 5),
         reads("5 before 2: variable 24, the operator cut off", cut_behind(to_atom(), 24), 5),
         reads("6 before 2: variable 3, the operator cut off", cut_behind(to_atom(), 3), 6),
         reads("2: a variable cut off has no fault of its own", to_atom().field(3, 7).bytes(), 2),
-        reads("7 before 2: an order operator on a token, its value cut off", atom(to_atom().variable(1).operator(3)), 7),
+        reads(
+            "7 before 2: an order operator on a token, its value cut off",
+            atom(to_atom().variable(1).operator(3)),
+            7,
+        ),
         reads("4 before 2: a list of nine, its values cut off", atom(to_atom().variable(1).operator(1).count(9)), 4),
-        reads("4 before 7: a list of none on a boolean", behind(to_atom().variable(17).operator(2).count(0).value(9)), 4),
+        reads(
+            "4 before 7: a list of none on a boolean",
+            behind(to_atom().variable(17).operator(2).count(0).value(9)),
+            4,
+        ),
         reads("7 before 2: the first value bad, the second cut off", first_value_bad(), 7),
         reads("2 before 7: a value cut off that would be bad", bad_value_cut(), 2),
         reads("2 before 4: the clause count cut off", head_to_count(), 2),
@@ -61,7 +73,18 @@ fn head_to_count() -> Vec<u8> {
 }
 
 fn value_then_operator() -> Vec<u8> {
-    head().policy(0, 8).node(0).count(1).count(2).variable(17).operator(1).count(1).value(5).variable(0).operator(9).bytes()
+    head()
+        .policy(0, 8)
+        .node(0)
+        .count(1)
+        .count(2)
+        .variable(17)
+        .operator(1)
+        .count(1)
+        .value(5)
+        .variable(0)
+        .operator(9)
+        .bytes()
 }
 
 /// The earlier field's fault counts, whatever its number.
@@ -76,16 +99,32 @@ fn between_fields() -> Vec<Case> {
         reads("4 before 5: seventeen columns of kind 3", behind(Raw::header(1, 17, 1, 1, 0).kinds(&[3; 18])), 4),
         reads("4 before 4's neighbour 2: nine keys and nothing behind", Raw::header(1, 2, 9, 1, 0).bytes(), 4),
         reads("5 before 4: kind 3, then nine clauses", five_then_four(), 5),
-        reads("5 before 6: kind 3, then a held column not there", Raw::header(1, 1, 1, 1, 0).kinds(&[3, 0]).table(0xFFFF).bytes(), 5),
+        reads(
+            "5 before 6: kind 3, then a held column not there",
+            Raw::header(1, 1, 1, 1, 0).kinds(&[3, 0]).table(0xFFFF).bytes(),
+            5,
+        ),
         reads("6 before 5: a held column not there, then variable 24", six_then_five(), 6),
         reads("6 before 8: a held column not there, then no command", six_then_eight(), 6),
         reads("7 before 8: an order on a token, then no command", behind(seven_then_eight), 7),
         reads("8 before 7: no command, then an order on a token", behind(eight_then_seven), 8),
         reads("8 before 9: no command, then depth seven", behind(deep(head().policy(0, 0))), 8),
         reads("9 before 8: depth seven, then no command", behind(nine_then_eight), 9),
-        reads("6 before 9: a table not there at depth two", behind(deep(head().policy(0, 8).node(5).node(3).field(4, 1))), 6),
-        reads("9 before 6: depth seven, then variable 23", behind(deep(head().policy(0, 8)).count(1).count(1).variable(23)), 9),
-        reads("9 before 10: depth seven, then bytes left over", [deep(head().policy(0, 8)).bytes(), vec![255; 9]].concat(), 9),
+        reads(
+            "6 before 9: a table not there at depth two",
+            behind(deep(head().policy(0, 8).node(5).node(3).field(4, 1))),
+            6,
+        ),
+        reads(
+            "9 before 6: depth seven, then variable 23",
+            behind(deep(head().policy(0, 8)).count(1).count(1).variable(23)),
+            9,
+        ),
+        reads(
+            "9 before 10: depth seven, then bytes left over",
+            [deep(head().policy(0, 8)).bytes(), vec![255; 9]].concat(),
+            9,
+        ),
     ]
 }
 
@@ -104,7 +143,11 @@ fn six_then_eight() -> Vec<u8> {
 
 /// 10 and 11 behind all fields.
 fn at_the_end() -> Vec<Case> {
-    let lacking = pack::sheet(&sheet(&[Token], &[Token]).table(0, &[], &[]).permit("S", Selector::All, &[vec![within(col(0), &[1])]]));
+    let lacking = pack::sheet(&sheet(&[Token], &[Token]).table(0, &[], &[]).permit(
+        "S",
+        Selector::All,
+        &[vec![within(col(0), &[1])]],
+    ));
     let mut padded = lacking.clone();
     *padded.last_mut().expect("some bytes") |= 1;
     let over = [lacking.clone(), vec![0]].concat();
@@ -144,10 +187,15 @@ fn asked() -> Vec<Case> {
         with(|w| (w.session, w.rows, w.room) = (vec![1], vec![255], 1)).refused("15: session and rows both bad", 15),
         with(|w| (w.sheet, w.room) = (vec![0x20], 0)).refused("3 before 14: edition 2, no room", 3),
         normal_refused("2 before 14: a sheet cut short, no room", one[..3].to_vec(), 0, 2),
-        normal_refused("14 where the normal form itself would fit", {
-            let twice = sheet(&[Token], &[Token]).full_table().permit("S", Selector::All, &vec![vec![]; 2]);
-            pack::sheet(&twice.permit("S", Selector::All, &vec![vec![within(col(0), &[1, 1, 1])]; 2]))
-        }, 30, 14),
+        normal_refused(
+            "14 where the normal form itself would fit",
+            {
+                let twice = sheet(&[Token], &[Token]).full_table().permit("S", Selector::All, &vec![vec![]; 2]);
+                pack::sheet(&twice.permit("S", Selector::All, &vec![vec![within(col(0), &[1, 1, 1])]; 2]))
+            },
+            30,
+            14,
+        ),
         covers("12: no policy at all", short, (0, 0), [12, 0]),
     ]
 }

@@ -15,7 +15,8 @@ pub fn cases() -> Vec<Case> {
         .permit("S", Selector::InSchema(4), &[vec![within(col(1), &[1])]])
         .restrict("U", Selector::Table(1), &[vec![within(col(1), &[1]), within(col(1), &[2])], tenant.clone()])
         .permit("D", Selector::All, &[vec![within(col(0), &[3]), within(col(0), &[4])]]);
-    let many = bare.clone().permit("SI", Selector::All, &vec![vec![]; 8]).restrict("S", Selector::All, &vec![vec![]; 8]);
+    let many =
+        bare.clone().permit("SI", Selector::All, &vec![vec![]; 8]).restrict("S", Selector::All, &vec![vec![]; 8]);
     let many = many.restrict("S", Selector::All, &vec![tenant; 5]);
     vec![
         prints(

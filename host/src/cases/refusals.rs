@@ -35,7 +35,11 @@ fn first() -> Vec<Case> {
         reads("2 no byte at all", vec![], 2),
         reads("2 the edition alone", vec![0x10], 2),
         reads("2 nothing behind the counts", Raw::header(1, 2, 2, 1, 1).field(1, 0).bytes(), 2),
-        reads("2 a table cut behind its schema", Raw::header(1, 0, 1, 1, 0).kinds(&[0]).field(6, 0).field(1, 0).bytes(), 2),
+        reads(
+            "2 a table cut behind its schema",
+            Raw::header(1, 0, 1, 1, 0).kinds(&[0]).field(6, 0).field(1, 0).bytes(),
+            2,
+        ),
         reads("2 a policy cut in its commands", head().policy(0, 0b1000).bytes()[..8].to_vec(), 2),
         reads("2 an inner selector missing", head().policy(0, 0b1000).node(5).node(5).node(5).bytes(), 2),
         reads("2 a value cut in its last byte", cut(&to_atom().variable(0).operator(3).value(5)), 2),
@@ -84,7 +88,11 @@ fn fields() -> Vec<Case> {
         reads("8 a permissive policy for no command", commands(0), 8),
         reads("8 a restrictive policy for no command", commands(1), 8),
         reads("8 no command and nothing behind it", head().policy(0, 0).bytes(), 8),
-        reads("8 the second policy for no command", two.policy(0, 8).node(0).count(0).policy(1, 0).node(0).count(0).bytes(), 8),
+        reads(
+            "8 the second policy for no command",
+            two.policy(0, 8).node(0).count(0).policy(1, 0).node(0).count(0).bytes(),
+            8,
+        ),
         reads("8 no command, no clause", head().policy(0, 0).node(0).count(0).bytes(), 8),
     ]
 }
@@ -154,10 +162,12 @@ fn whole() -> Vec<Case> {
     let with = |tail: &[u8]| [good.as_slice(), tail].concat();
     let mut padded = good.clone();
     *padded.last_mut().expect("some bytes") |= 1;
-    let lacks = |name: &str, selector, clauses: &[Clause]| reads(name, pack::sheet(&fonts(&[0], selector, clauses)), 11);
+    let lacks =
+        |name: &str, selector, clauses: &[Clause]| reads(name, pack::sheet(&fonts(&[0], selector, clauses)), 11);
     let token = vec![within(col(1), &[4])];
     let dead_clause = vec![is(col(1), Test::IsNull), within(col(1), &[4])];
-    let second = fonts(&[0], Selector::All, &[vec![]]).table(0, &[], &[0, 1]).restrict("D", Selector::All, &[token.clone()]);
+    let second =
+        fonts(&[0], Selector::All, &[vec![]]).table(0, &[], &[0, 1]).restrict("D", Selector::All, &[token.clone()]);
     vec![
         reads("10 the last padding bit is 1", padded.clone(), 10),
         reads("10 a zero byte left over", with(&[0]), 10),
@@ -209,7 +219,8 @@ fn forms() -> Vec<Case> {
     let session = pack::contents(&[Some(7), None]);
     let rows = [pack::contents(&[Some(1), None]), pack::contents(&[None, Some(4)])].concat();
     let room = rows.len();
-    let good = Wanted { sheet: packed.clone(), table: 0, command: 0, session: session.clone(), rows: rows.clone(), room };
+    let good =
+        Wanted { sheet: packed.clone(), table: 0, command: 0, session: session.clone(), rows: rows.clone(), room };
     let session_is = |name: &str, session: Vec<u8>| Wanted { session, ..good.clone() }.refused(name, 15);
     let rows_are = |name: &str, table, rows: Vec<u8>| {
         let room = rows.len();

@@ -44,7 +44,8 @@ pub fn cases() -> Vec<Case> {
 }
 
 fn lives() -> Vec<Case> {
-    let one = |name: &str, atoms: &[Atom], verdict| dead(name, pack::sheet(&permit(&[atoms.to_vec()])), (0, 0), [0, verdict]);
+    let one =
+        |name: &str, atoms: &[Atom], verdict| dead(name, pack::sheet(&permit(&[atoms.to_vec()])), (0, 0), [0, verdict]);
     let against = permit(&[vec![within(X, &[1])]]).restrict("S", Selector::All, &[vec![within(X, &[2])]]);
     let emptied = permit(&[vec![]]).restrict("S", Selector::All, &[]);
     let alone = layouts().restrict("S", Selector::All, &[vec![]]);
@@ -69,7 +70,11 @@ fn lives() -> Vec<Case> {
         ),
         one("live: 3 to 6 with 3 to 5 struck out", &[at_least(X, 3), at_most(X, 6), without(X, &[4, 3, 5])], 0),
         one("dead: x above 4, x below 5", &[is(X, Test::Above(4)), is(X, Test::Below(5))], 1),
-        one("dead: t = u, u = key 0, key 0 in [1], t in [2]", &[equal(T, U), equal(U, TENANT), within(TENANT, &[1]), within(T, &[2])], 1),
+        one(
+            "dead: t = u, u = key 0, key 0 in [1], t in [2]",
+            &[equal(T, U), equal(U, TENANT), within(TENANT, &[1]), within(T, &[2])],
+            1,
+        ),
         one("live: t = t", &[equal(T, T)], 0),
         one("dead: key 0 = key 0, key 0 is null", &[equal(TENANT, TENANT), null(TENANT)], 1),
         dead(
@@ -84,9 +89,15 @@ fn lives() -> Vec<Case> {
 fn isolations() -> Vec<Case> {
     const ISOLATED: [u64; 4] = [0, 0, 0, 0];
     let leaks = |a, b| [0, 1, a, b];
-    let of = |name: &str, clauses: &[Clause], verdict: [u64; 4]| isolated(name, pack::sheet(&permit(clauses)), (0, 0), verdict);
+    let of = |name: &str, clauses: &[Clause], verdict: [u64; 4]| {
+        isolated(name, pack::sheet(&permit(clauses)), (0, 0), verdict)
+    };
     let tenant = || equal(T, TENANT);
-    let two = permit(&[vec![tenant()], vec![within(F, &[1])]]).restrict("S", Selector::All, &[vec![tenant()], vec![within(F, &[1])]]);
+    let two = permit(&[vec![tenant()], vec![within(F, &[1])]]).restrict(
+        "S",
+        Selector::All,
+        &[vec![tenant()], vec![within(F, &[1])]],
+    );
     let guarded = permit(&[vec![]]).restrict("S", Selector::All, &[vec![equal(TENANT, T)]]);
     let boolean_key = sheet(&[], &[Boolean]).table(0, &[], &[]);
     let keys = |clauses: &[Clause]| pack::sheet(&boolean_key.clone().permit("S", Selector::All, clauses));
@@ -99,7 +110,11 @@ fn isolations() -> Vec<Case> {
         of("isolated: key 0 is null", &[vec![null(TENANT)]], ISOLATED),
         of("leaks: key 0 is not null", &[vec![some(TENANT)]], leaks(0, 0)),
         of("leaks: a clause without atoms", &[vec![]], leaks(0, 0)),
-        of("leaks: key 0 in [7] or key 0 in [8]", &[vec![within(TENANT, &[7])], vec![within(TENANT, &[8])]], leaks(0, 1)),
+        of(
+            "leaks: key 0 in [7] or key 0 in [8]",
+            &[vec![within(TENANT, &[7])], vec![within(TENANT, &[8])]],
+            leaks(0, 1),
+        ),
         of("leaks: key 0 in [7, 8]", &[vec![within(TENANT, &[7, 8])]], leaks(0, 0)),
         of("leaks: key 0 is null or key 0 in [7]", &[vec![null(TENANT)], vec![within(TENANT, &[7])]], leaks(0, 1)),
         of(
@@ -112,7 +127,11 @@ fn isolations() -> Vec<Case> {
             &[vec![within(X, &[1]), within(TENANT, &[7])], vec![at_most(X, 1), within(TENANT, &[8])]],
             leaks(0, 1),
         ),
-        of("leaks 1 1: the first clause is for one tenant", &[vec![tenant(), within(X, &[1])], vec![within(X, &[2])]], leaks(1, 1)),
+        of(
+            "leaks 1 1: the first clause is for one tenant",
+            &[vec![tenant(), within(X, &[1])], vec![within(X, &[2])]],
+            leaks(1, 1),
+        ),
         of(
             "leaks 0 2: not with the second, which is dead",
             &[vec![tenant()], vec![null(X), some(X)], vec![within(F, &[1])]],
@@ -120,9 +139,18 @@ fn isolations() -> Vec<Case> {
         ),
         isolated("leaks 0 3: the last restrictive clause varies fastest", pack::sheet(&two), (0, 0), leaks(0, 3)),
         of("isolated: nobody meets it", &[vec![null(T), tenant()]], ISOLATED),
-        of("isolated: a row's tenant is one value", &[vec![tenant(), within(T, &[3])], vec![within(TENANT, &[3])]], ISOLATED),
+        of(
+            "isolated: a row's tenant is one value",
+            &[vec![tenant(), within(T, &[3])], vec![within(TENANT, &[3])]],
+            ISOLATED,
+        ),
         of("leaks 0 1: t is 3 or the session's", &[vec![tenant()], vec![within(T, &[3])]], leaks(0, 1)),
-        isolated("isolated: key 0 in [0] or not in [1], a boolean", keys(&[vec![within(TENANT, &[0])], vec![without(TENANT, &[1])]]), (0, 0), ISOLATED),
+        isolated(
+            "isolated: key 0 in [0] or not in [1], a boolean",
+            keys(&[vec![within(TENANT, &[0])], vec![without(TENANT, &[1])]]),
+            (0, 0),
+            ISOLATED,
+        ),
         isolated("leaks 0 0: key 0 in [0, 1], a boolean", keys(&[vec![within(TENANT, &[1, 0])]]), (0, 0), leaks(0, 0)),
         isolated("isolated: another command", pack::sheet(&permit(&[vec![]])), (0, 1), ISOLATED),
     ]
@@ -141,7 +169,12 @@ fn coverings() -> Vec<Case> {
         of("two halves do not cover the whole", &[vec![at_most(X, 5)], vec![at_least(X, 6)]], &[vec![some(X)]], 0),
         one("x in [3] covers x = y, y in [3]", &[within(X, &[3])], &[equal(X, Y), within(Y, &[3])], 1),
         one("x = y covers x in [4], y in [4]", &[equal(X, Y)], &[within(X, &[4]), within(Y, &[4])], 1),
-        one("x = y does not cover x in [4, 5], y in [4, 5]", &[equal(X, Y)], &[within(X, &[4, 5]), within(Y, &[4, 5])], 0),
+        one(
+            "x = y does not cover x in [4, 5], y in [4, 5]",
+            &[equal(X, Y)],
+            &[within(X, &[4, 5]), within(Y, &[4, 5])],
+            0,
+        ),
         one("x = x covers x in [1]", &[equal(X, X)], &[within(X, &[1])], 1),
         one("x = x does not cover a clause without atoms", &[equal(X, X)], &[], 0),
         one("a clause without atoms covers x is null", &[], &[null(X)], 1),
@@ -159,7 +192,12 @@ fn coverings() -> Vec<Case> {
         of("no clause covers no clause", none, none, 1),
         of("no clause covers nothing that is met", none, &[vec![within(X, &[1])]], 0),
         of("no clause covers a clause that nobody meets", none, &[vec![null(Y), some(Y)]], 1),
-        of("each clause by its own", &[vec![within(X, &[1, 2])], vec![null(Y)]], &[vec![null(Y), some(X)], vec![within(X, &[2])]], 1),
+        of(
+            "each clause by its own",
+            &[vec![within(X, &[1, 2])], vec![null(Y)]],
+            &[vec![null(Y), some(X)], vec![within(X, &[2])]],
+            1,
+        ),
         covers("a policy covers itself", pack::sheet(&permit(&[vec![within(X, &[1])]])), (0, 0), [0, 1]),
     ]
 }

@@ -79,8 +79,10 @@ fn policy(random: &mut Random, sheet: &Sheet, size: Size, careless: bool) -> Pol
     if commands == [false; 4] {
         commands[random.below(4)] = true;
     }
-    let matched: Vec<&Table> =
-        (0..sheet.tables.len()).filter(|&table| sheet.matches(&selector, table)).map(|table| &sheet.tables[table]).collect();
+    let matched: Vec<&Table> = (0..sheet.tables.len())
+        .filter(|&table| sheet.matches(&selector, table))
+        .map(|table| &sheet.tables[table])
+        .collect();
     let usable = |column: &usize| careless || matched.iter().all(|table| table.holds[*column]);
     let columns = (0..sheet.columns.len()).filter(usable).map(Variable::Column);
     let variables: Vec<Variable> = columns.chain((0..sheet.keys.len()).map(Variable::Key)).collect();

@@ -75,7 +75,11 @@ fn merged(atoms: Clause) -> Clause {
     let mut merged: Clause = Vec::new();
     for atom in atoms {
         let earlier = merged.iter_mut().filter(|other| other.variable == atom.variable).find_map(|other| {
-            if let Test::In(list) = &mut other.test { Some(list) } else { None }
+            if let Test::In(list) = &mut other.test {
+                Some(list)
+            } else {
+                None
+            }
         });
         match (&atom.test, earlier) {
             (Test::In(list), Some(common)) => common.retain(|value| list.contains(value)),

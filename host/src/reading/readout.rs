@@ -43,7 +43,8 @@ mod tests {
     #[test]
     fn the_example_of_document_01() {
         let sheet = [0x10, 0x88, 0x42, 0xA0, 0x00, 0x40, 0x00, 0x20, 0x08, 0x80, 0x20];
-        let printed = "tables 1 policies 1\n0 S 1 live isolated\n0 I 0 dead isolated\n0 U 0 dead isolated\n0 D 0 dead isolated\n";
+        let printed =
+            "tables 1 policies 1\n0 S 1 live isolated\n0 I 0 dead isolated\n0 U 0 dead isolated\n0 D 0 dead isolated\n";
         assert_eq!(readout(&sheet), printed);
     }
 

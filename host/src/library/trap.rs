@@ -1,0 +1,51 @@
+//! A trap in the library ends the run with the question that made it, in hex.
+
+use crate::cases::format::question_words;
+use crate::question::Question;
+use std::ffi::{c_int, c_void};
+use std::sync::atomic::{AtomicPtr, Ordering};
+use std::sync::Once;
+
+#[repr(C)]
+struct Action {
+    handler: extern "C" fn(c_int),
+    mask: [u64; 16],
+    flags: c_int,
+    restorer: *const c_void,
+}
+
+extern "C" {
+    fn sigaction(signal: c_int, new: *const Action, old: *mut Action) -> c_int;
+    fn _exit(status: c_int) -> !;
+}
+
+const ON_OWN_STACK: c_int = 0x0800_0000;
+const SIGNALS: [c_int; 5] = [4, 6, 7, 8, 11];
+
+static ASKED: AtomicPtr<Question> = AtomicPtr::new(std::ptr::null_mut());
+static WATCH: Once = Once::new();
+
+extern "C" fn report(signal: c_int) {
+    let asked = ASKED.load(Ordering::SeqCst);
+    if !asked.is_null() {
+        // SAFETY: set for as long as the call lasts, and the call is what trapped.
+        eprintln!("\ntrap by signal {signal} in: {}", question_words(unsafe { &*asked }));
+    }
+    // SAFETY: nothing is left to be done.
+    unsafe { _exit(128 + signal) }
+}
+
+/// Runs the call with a trap reported as this question.
+pub fn watched<T>(question: &Question, call: impl FnOnce() -> T) -> T {
+    WATCH.call_once(|| {
+        for signal in SIGNALS {
+            let action = Action { handler: report, mask: [0; 16], flags: ON_OWN_STACK, restorer: std::ptr::null() };
+            // SAFETY: a handler for traps, which ends the process.
+            unsafe { sigaction(signal, &action, std::ptr::null_mut()) };
+        }
+    });
+    ASKED.store(std::ptr::from_ref(question).cast_mut(), Ordering::SeqCst);
+    let result = call();
+    ASKED.store(std::ptr::null_mut(), Ordering::SeqCst);
+    result
+}
