@@ -3,6 +3,16 @@
 // and clauses, so that no later layer parses again. Stands on bits and meaning; specs/Directory.antt ties a directory to the sheet that the
 // definitions read.
 
+use bits::Place;
+use meaning::Atom;
+use meaning::Clause;
+
+pub mod atoms;
+pub mod clauses;
+pub mod fields;
+
+pub use clauses::clause_at;
+
 // How many columns, keys and tables there are, and the kinds of columns (from 0) and keys (from 16), by number.
 pub struct Facts {
     pub columns: u64,
@@ -44,4 +54,27 @@ pub enum Outcome {
 pub struct Reading {
     pub outcome: Outcome,
     pub directory: Directory,
+}
+
+// Where a reading ends: the place after it, or its refusal.
+pub enum End {
+    At(Place),
+    Refused(u32),
+}
+
+// The values of a list.
+pub struct Values {
+    pub end: End,
+    pub count: usize,
+    pub values: [u64; 8],
+}
+
+pub struct AtomRead {
+    pub end: End,
+    pub atom: Atom,
+}
+
+pub struct ClauseRead {
+    pub end: End,
+    pub clause: Clause,
 }

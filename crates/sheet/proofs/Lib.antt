@@ -1,0 +1,3 @@
+pub mod FieldLaws
+pub mod TurnLaws
+pub mod AtomLaws

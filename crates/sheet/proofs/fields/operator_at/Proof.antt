@@ -1,0 +1,50 @@
+-- `sheet::fields::operator_at` meets its contract: the field is the definition's, and so are the tests on it.
+use mathlib.Core.Path.{refl, sym, ap}
+use native.Mathlib.Omega.{arith}
+use Rattle.values.specs.Reads.{fieldOf}
+use Rattle.values.proofs.ReadLaws.{field-found, field-lost}
+use Rattle.sheet.proofs.FieldLaws.{value-is, refusal-is, operator-lost, operator-high, operator-low, operator-last, operator-integer, operator-other}
+use borrow.Author.Needs.{needs}
+use Rattle.sheet.proofs.fields.operator_at.Statement.{statement}
+use Rattle.sheet.proofs.fields.operator_at.Tie as tie
+
+field-at-requires : tie.Need-field-at-requires
+field-at-requires c κs = search needs
+
+enum-known-got : tie.Need-enum-known-got
+enum-known-got c = search needs
+
+enum-told : tie.Need-enum-told
+enum-told c = search needs
+
+returns : tie.Need-returns
+returns c p e = refusal-is _ (c .enum-told .given .1) (operator-lost _ _ _ (field-lost _ _ p _ (omega arith) (omega arith) (c .before .before .field-at .ensures) e (c .enum-told .given .1)))
+
+returns-2 : tie.Need-returns-2
+returns-2 c p e = field-found _ _ p _ (omega arith) (omega arith) (c .before .before .before .before .field-at .ensures) e (c .before .before .got .given .1) (λ o i j. sym (ap fieldOf (operator-high _ _ _ i (c .if1 .taken))))
+
+returns-3 : tie.Need-returns-3
+returns-3 c p e = field-found _ _ p _ (omega arith) (omega arith) (c .before .before .before .before .before .field-at .ensures) e (c .before .before .before .got .given .1) (λ o i j. value-is _ refl j (operator-low _ _ _ i (c .before .if1 .left) (c .if2 .taken)))
+
+returns-4 : tie.Need-returns-4
+returns-4 c p e = field-found _ _ p _ (omega arith) (omega arith) (c .before .before .before .before .before .before .field-at .ensures) e (c .before .before .before .before .got .given .1) (λ o i j. value-is _ refl j (operator-last _ _ _ i (c .before .before .if1 .left) (c .before .if2 .left) (c .if3 .taken)))
+
+returns-5 : tie.Need-returns-5
+returns-5 c p e = field-found _ _ p _ (omega arith) (omega arith) (c .before .before .before .before .before .before .before .field-at .ensures) e (c .before .before .before .before .before .got .given .1) (λ o i j. value-is _ refl j (operator-integer _ _ _ i (c .before .before .before .if1 .left) (c .before .before .if2 .left) (c .before .if3 .left) (c .if4 .taken)))
+
+returns-6 : tie.Need-returns-6
+returns-6 c p e = field-found _ _ p _ (omega arith) (omega arith) (c .before .before .before .before .before .before .before .field-at .ensures) e (c .before .before .before .before .before .got .given .1) (λ o i j. sym (ap fieldOf (operator-other _ _ _ i (c .before .before .before .if1 .left) (c .before .before .if2 .left) (c .before .if3 .left) (c .if4 .left))))
+
+pub operator-at-spec : {M : Type 1} → statement M
+operator-at-spec =
+    tie.close
+    (tie.spec
+    field-at-requires
+    enum-known-got
+    enum-told
+    returns
+    returns-2
+    returns-3
+    returns-4
+    returns-5
+    returns-6)
