@@ -3,6 +3,7 @@
 
 pub mod cases;
 pub mod compare;
+pub mod examples;
 pub mod library;
 pub mod making;
 pub mod postgres;
