@@ -7,6 +7,8 @@ pub mod UniqueLaws
 pub mod ReadLaws
 pub mod ListingLaws
 pub mod BoundLaws
+pub mod NumberedLaws
+pub mod AskedLaws
 pub mod CaseLaws
 pub mod BitLaws
 pub mod AtomLaws
