@@ -50,35 +50,47 @@ pub nil-cons : {A : Type 0} {x : A} {xs : List A} → [] ≡ x ∷ xs → ⊥
 nil-cons e = let z : _≡_ {A = ℕ} 0 1 = cc in omega arith
 
 module _ {A B : Type 0} (f : A → B) where
-  drop-map : (i : ℕ) (xs : List A) → drop i (map f xs) ≡ map f (drop i xs)
+  pub drop-map : (i : ℕ) (xs : List A) → drop i (map f xs) ≡ map f (drop i xs)
   drop-map zero xs = refl
   drop-map (suc i) [] = refl
   drop-map (suc i) (x ∷ xs) = drop-map i xs
 
-  take-map : (i : ℕ) (xs : List A) → take i (map f xs) ≡ map f (take i xs)
+  pub take-map : (i : ℕ) (xs : List A) → take i (map f xs) ≡ map f (take i xs)
   take-map zero xs = refl
   take-map (suc i) [] = refl
   take-map (suc i) (x ∷ xs) = ap (λ t. f x ∷ t) (take-map i xs)
 
-  map-both : (xs ys : List A) → map f (xs ++ ys) ≡ map f xs ++ map f ys
+  pub map-both : (xs ys : List A) → map f (xs ++ ys) ≡ map f xs ++ map f ys
   map-both [] ys = refl
   map-both (x ∷ xs) ys = ap (λ t. f x ∷ t) (map-both xs ys)
 
--- the atoms of a clause: at i, the first i + 1, none behind the last, one more, the first n
+-- what f makes of the first n of an array: at i, the first i + 1, none behind the last
+module _ {A B : Type 0} (f : A → B) (l : List A) (n : ℕ) (d : A) where
+  pub mapped-at : n ≤ length l → (i : ℕ) → i < n → drop i (map f (take n l)) ≡ f (getD l i d) ∷ drop (i + 1) (map f (take n l))
+  mapped-at fits i h =
+      drop-map f i (take n l) ∙ ap (map f) (front-at l n i d fits h) ∙ ap (λ t. f (getD l i d) ∷ t) (sym (drop-map f (i + 1) (take n l)))
+
+  pub mapped-suc : n ≤ length l → (i : ℕ) → i < n → take (i + 1) (map f (take n l)) ≡ take i (map f (take n l)) ++ (f (getD l i d) ∷ [])
+  mapped-suc fits i h =
+      take-map f (i + 1) (take n l) ∙ ap (map f) (front-suc l n i d fits h) ∙ map-both f (take i (take n l)) (getD l i d ∷ [])
+      ∙ ap (λ t. t ++ (f (getD l i d) ∷ [])) (sym (take-map f i (take n l)))
+
+  pub mapped-end : (i : ℕ) → n ≤ i → drop i (map f (take n l)) ≡ []
+  mapped-end i h = drop-map f i (take n l) ∙ ap (map f) (all-dropped l n i h)
+
+  pub mapped-length : n ≤ length l → length (map f (take n l)) ≡ n
+  mapped-length h = length-map (take n l) f ∙ length-take-le n l h
+
+-- the atoms of a clause so
 module _ (c : Clause) (fits : c .count ≤ length (c .atoms)) (i : ℕ) (h : i < c .count) where
   pub atom-at : drop i (clauseOf c) ≡ atomOf (getD (c .atoms) i no-atom) ∷ drop (i + 1) (clauseOf c)
-  atom-at =
-      drop-map atomOf i (take (c .count) (c .atoms)) ∙ ap (map atomOf) (front-at (c .atoms) (c .count) i no-atom fits h)
-      ∙ ap (λ t. atomOf (getD (c .atoms) i no-atom) ∷ t) (sym (drop-map atomOf (i + 1) (take (c .count) (c .atoms))))
+  atom-at = mapped-at atomOf (c .atoms) (c .count) no-atom fits i h
 
   pub atoms-suc : take (i + 1) (clauseOf c) ≡ take i (clauseOf c) ++ (atomOf (getD (c .atoms) i no-atom) ∷ [])
-  atoms-suc =
-      take-map atomOf (i + 1) (take (c .count) (c .atoms)) ∙ ap (map atomOf) (front-suc (c .atoms) (c .count) i no-atom fits h)
-      ∙ map-both atomOf (take i (take (c .count) (c .atoms))) (getD (c .atoms) i no-atom ∷ [])
-      ∙ ap (λ t. t ++ (atomOf (getD (c .atoms) i no-atom) ∷ [])) (sym (take-map atomOf i (take (c .count) (c .atoms))))
+  atoms-suc = mapped-suc atomOf (c .atoms) (c .count) no-atom fits i h
 
 pub atoms-end : (c : Clause) (i : ℕ) → c .count ≤ i → drop i (clauseOf c) ≡ []
-atoms-end c i h = drop-map atomOf i (take (c .count) (c .atoms)) ∙ ap (map atomOf) (all-dropped (c .atoms) (c .count) i h)
+atoms-end c i h = mapped-end atomOf (c .atoms) (c .count) no-atom i h
 
 pub mapped-pushed : {A B : Type 0} (f : A → B) (l : List A) (n : ℕ) (a : A) → n < length l → map f (take (n + 1) (set l n a)) ≡ map f (take n l) ++ (f a ∷ [])
 mapped-pushed f l n a h = ap (map f) (pushed l n a h) ∙ map-both f (take n l) (a ∷ [])
@@ -87,7 +99,7 @@ pub atoms-cut : (c : Clause) (n : ℕ) → n ≤ c .count → map atomOf (take n
 atoms-cut c n h = ap (map atomOf) (sym (take-take n (c .count) (c .atoms) h)) ∙ sym (take-map atomOf n (take (c .count) (c .atoms)))
 
 pub atoms-length : (c : Clause) → c .count ≤ length (c .atoms) → length (clauseOf c) ≡ c .count
-atoms-length c h = length-map (take (c .count) (c .atoms)) atomOf ∙ length-take-le (c .count) (c .atoms) h
+atoms-length c h = mapped-length atomOf (c .atoms) (c .count) no-atom h
 
 pub front-getD : {A : Type 0} (l : List A) (m i : ℕ) (d : A) → i < length (take m l) → getD (take m l) i d ≡ getD l i d
 front-getD l m i d h =

@@ -1,0 +1,4 @@
+pub mod FitLaws
+pub mod PruningLaws
+pub mod TidiedLaws
+pub mod CoverLaws
