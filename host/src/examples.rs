@@ -14,10 +14,11 @@ const ROLE: Variable = Variable::Key(1);
 
 /// Columns house, face (tokens), seats (integer), released (boolean); keys house and role (tokens).
 fn tables() -> Sheet {
-    sheet(&[Token, Token, Integer, Boolean], &[Token, Token])
-        .table(0, &[0], &[0, 1])
-        .table(0, &[0], &[0, 1, 2])
-        .table(1, &[0], &[0, 1, 3])
+    sheet(&[Token, Token, Integer, Boolean], &[Token, Token]).table(0, &[0], &[0, 1]).table(0, &[0], &[0, 1, 2]).table(
+        1,
+        &[0],
+        &[0, 1, 3],
+    )
 }
 
 /// Faces are isolated; two licence policies contradict each other, so licences are dead; a title

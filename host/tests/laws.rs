@@ -159,8 +159,8 @@ fn tiny(random: &mut Random) -> (Sheet, Clause, Clause) {
     let made = Sheet { columns: vec![kind], keys: vec![kind; random.between(1, 2)], tables: vec![], policies: vec![] };
     let variables: Vec<Variable> =
         [Variable::Column(0)].into_iter().chain((0..made.keys.len()).map(Variable::Key)).collect();
-    let p = sheets::clause(random, &made, &variables, 3);
-    let q = sheets::clause(random, &made, &variables, 4);
+    let p = sheets::clause(random, &made, &variables, Size { atoms: 3, ..SMALL });
+    let q = sheets::clause(random, &made, &variables, SMALL);
     (made, p, q)
 }
 

@@ -17,7 +17,9 @@ fn against(call: &str) {
     use fiddlecomet_host::question::Reading;
     let questions = number("FIDDLECOMET_QUESTIONS", 20_000) as usize;
     match compare(&Reading, &Library::default(), call, number("FIDDLECOMET_SEED", 1), questions) {
-        Ok(compared) => println!("compared {call}: {} questions, {} answered", compared.questions, compared.answered),
+        Ok(compared) => {
+            println!("compared {call}: {} questions, {} answered", compared.questions(), compared.answered())
+        }
         Err(difference) => panic!("{call} differs\n{difference}"),
     }
 }

@@ -30,11 +30,20 @@ impl fmt::Display for Difference {
     }
 }
 
-/// What was compared: how many questions, and how many of them were answered and not refused.
+/// What was compared: how many questions got each refusal, 0 standing for an answer.
 #[derive(Clone, Copy, Debug, Default, PartialEq, Eq)]
 pub struct Compared {
-    pub questions: usize,
-    pub answered: usize,
+    pub by_refusal: [usize; 17],
+}
+
+impl Compared {
+    pub fn questions(&self) -> usize {
+        self.by_refusal.iter().sum()
+    }
+
+    pub fn answered(&self) -> usize {
+        self.by_refusal[0]
+    }
 }
 
 /// Asks both one question; the difference, made as small as it gets.
@@ -64,8 +73,7 @@ pub fn compare(
         if tried.answer(&question) != expected {
             return Err(Box::new(differ(right, tried, &question).expect("seen to differ")));
         }
-        compared.questions += 1;
-        compared.answered += usize::from(expected.refusal() == 0);
+        compared.by_refusal[expected.refusal() as usize] += 1;
     }
     Ok(compared)
 }

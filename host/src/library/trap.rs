@@ -2,8 +2,8 @@
 
 use crate::cases::format::question_words;
 use crate::question::Question;
+use std::cell::Cell;
 use std::ffi::{c_int, c_void};
-use std::sync::atomic::{AtomicPtr, Ordering};
 use std::sync::Once;
 
 #[repr(C)]
@@ -22,11 +22,15 @@ extern "C" {
 const ON_OWN_STACK: c_int = 0x0800_0000;
 const SIGNALS: [c_int; 5] = [4, 6, 7, 8, 11];
 
-static ASKED: AtomicPtr<Question> = AtomicPtr::new(std::ptr::null_mut());
 static WATCH: Once = Once::new();
 
+thread_local! {
+    /// What this thread asks just now; a trap is reported on the thread that made it.
+    static ASKED: Cell<*const Question> = const { Cell::new(std::ptr::null()) };
+}
+
 extern "C" fn report(signal: c_int) {
-    let asked = ASKED.load(Ordering::SeqCst);
+    let asked = ASKED.get();
     if !asked.is_null() {
         // SAFETY: set for as long as the call lasts, and the call is what trapped.
         eprintln!("\ntrap by signal {signal} in: {}", question_words(unsafe { &*asked }));
@@ -44,8 +48,8 @@ pub fn watched<T>(question: &Question, call: impl FnOnce() -> T) -> T {
             unsafe { sigaction(signal, &action, std::ptr::null_mut()) };
         }
     });
-    ASKED.store(std::ptr::from_ref(question).cast_mut(), Ordering::SeqCst);
+    ASKED.set(question);
     let result = call();
-    ASKED.store(std::ptr::null_mut(), Ordering::SeqCst);
+    ASKED.set(std::ptr::null());
     result
 }

@@ -5,6 +5,7 @@ use super::{damage, sheets};
 use crate::question::Question;
 use crate::reading::pack;
 use crate::reading::sheet::Sheet;
+use crate::reading::{ROW_LIST_BYTES, SHEET_BYTES};
 
 /// The six calls.
 pub const CALLS: [&str; 6] = ["branches", "dead", "isolated", "covers", "normal", "listing"];
@@ -17,9 +18,14 @@ pub fn found(random: &mut Random, length: usize) -> Vec<u8> {
 
 /// A random question to the call.
 pub fn question(random: &mut Random, call: &str) -> Question {
-    let size = if random.once_in(3) { sheets::ANY } else { sheets::SMALL };
+    let size = match random.below(12) {
+        0 => sheets::CROWDED,
+        1..=4 => sheets::ANY,
+        _ => sheets::SMALL,
+    };
     let made = sheets::sheet(random, size);
     let packed = match random.below(12) {
+        0 if random.once_in(40) => at_the_limit(random, &made),
         0..=3 => {
             let other = sheets::sheet(random, sheets::SMALL);
             damage::sheet(random, &made, &other)
@@ -43,6 +49,13 @@ pub fn question(random: &mut Random, call: &str) -> Question {
         }
         _ => listing(random, &made, packed, table, command),
     }
+}
+
+/// A sheet followed by zero bytes up to 16,384 bytes or a few more.
+fn at_the_limit(random: &mut Random, made: &Sheet) -> Vec<u8> {
+    let mut bytes = pack::sheet(made);
+    bytes.resize(SHEET_BYTES + random.below(3), 0);
+    bytes
 }
 
 /// A number asked: mostly one that is there.
@@ -75,6 +88,9 @@ fn listing(random: &mut Random, made: &Sheet, sheet: Vec<u8>, table: u32, comman
     }
     if random.once_in(8) {
         damage::bytes_of(random, &mut rows);
+    }
+    if random.once_in(400) && !rows.is_empty() {
+        rows = rows.repeat(ROW_LIST_BYTES / rows.len() + random.below(2));
     }
     let length = room(random, rows.len());
     Question::Listing { sheet, table, command, session, rows, out: found(random, length) }

@@ -35,7 +35,7 @@ impl Random {
         &from[self.below(from.len())]
     }
 
-    /// A number up to `most`, small ones far more often.
+    /// A number of `least..=most`, small ones far more often.
     pub fn small(&mut self, least: usize, most: usize) -> usize {
         let most = if self.once_in(8) { most } else { most.min(least + 3) };
         self.between(least, most)

@@ -17,10 +17,23 @@ pub struct Size {
     pub policies: usize,
     pub clauses: usize,
     pub atoms: usize,
+    /// Each count up to the most is as likely as any other; else small ones are likelier.
+    pub even: bool,
 }
 
-pub const SMALL: Size = Size { columns: 3, keys: 2, tables: 2, policies: 3, clauses: 3, atoms: 4 };
-pub const ANY: Size = Size { columns: 16, keys: 8, tables: 16, policies: 16, clauses: 8, atoms: 8 };
+impl Size {
+    fn count(self, random: &mut Random, least: usize, most: usize) -> usize {
+        if self.even {
+            random.between(least, most)
+        } else {
+            random.small(least, most)
+        }
+    }
+}
+
+pub const SMALL: Size = Size { columns: 3, keys: 2, tables: 2, policies: 3, clauses: 3, atoms: 4, even: false };
+pub const ANY: Size = Size { columns: 16, keys: 8, tables: 16, policies: 16, clauses: 8, atoms: 8, even: false };
+pub const CROWDED: Size = Size { columns: 4, keys: 3, tables: 2, policies: 5, clauses: 8, atoms: 8, even: true };
 
 /// A value of the kind: mostly of a small pool, at times an end of its range or anything.
 pub fn value(random: &mut Random, kind: Kind) -> i64 {
@@ -45,10 +58,10 @@ pub fn content(random: &mut Random, kind: Kind) -> Content {
 /// A random sheet. Once in thirty its policies use columns that a table lacks (refusal 11).
 pub fn sheet(random: &mut Random, size: Size) -> Sheet {
     let few_kinds = random.once_in(3).then(|| *random.pick(&KINDS));
-    let columns = random.small(0, size.columns);
-    let keys = random.small(1, size.keys);
-    let tables = random.small(1, size.tables);
-    let policies = random.small(0, size.policies);
+    let columns = size.count(random, 0, size.columns);
+    let keys = size.count(random, 1, size.keys);
+    let tables = size.count(random, 1, size.tables);
+    let policies = size.count(random, 0, size.policies);
     let columns: Vec<Kind> = (0..columns).map(|_| few_kinds.unwrap_or_else(|| *random.pick(&KINDS))).collect();
     let keys = (0..keys).map(|_| few_kinds.unwrap_or_else(|| *random.pick(&KINDS))).collect();
     let mut sheet = Sheet { columns, keys, tables: vec![], policies: vec![] };
@@ -87,12 +100,12 @@ fn policy(random: &mut Random, sheet: &Sheet, size: Size, careless: bool) -> Pol
     let columns = (0..sheet.columns.len()).filter(usable).map(Variable::Column);
     let variables: Vec<Variable> = columns.chain((0..sheet.keys.len()).map(Variable::Key)).collect();
     let least = usize::from(!random.once_in(8));
-    let clauses = random.small(least, size.clauses);
+    let clauses = size.count(random, least, size.clauses);
     Policy {
         restrictive: random.once_in(3),
         commands,
         selector,
-        clauses: (0..clauses).map(|_| clause(random, sheet, &variables, size.atoms)).collect(),
+        clauses: (0..clauses).map(|_| clause(random, sheet, &variables, size)).collect(),
     }
 }
 
@@ -118,9 +131,9 @@ pub fn selector(random: &mut Random, sheet: &Sheet, depth: u32) -> Selector {
     }
 }
 
-pub fn clause(random: &mut Random, sheet: &Sheet, variables: &[Variable], most: usize) -> Clause {
+pub fn clause(random: &mut Random, sheet: &Sheet, variables: &[Variable], size: Size) -> Clause {
     let least = usize::from(!random.once_in(8));
-    let atoms = random.small(least, most);
+    let atoms = size.count(random, least, size.atoms);
     // Few variables in one clause, so that atoms bear on each other.
     let few: Vec<Variable> = (0..random.between(1, 4)).map(|_| *random.pick(variables)).collect();
     let mut one = || {

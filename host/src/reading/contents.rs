@@ -41,10 +41,21 @@ impl Contents {
         Contents { null: !self.null, ranges: gaps(&self.ranges, kind) }
     }
 
+    /// What is in both sets: the ranges are walked side by side, the one that ends first giving way.
     pub fn common(&self, other: &Contents) -> Self {
-        let overlap = |&(a, b): &(i64, i64), &(c, d): &(i64, i64)| (a.max(c) <= b.min(d)).then(|| (a.max(c), b.min(d)));
-        let ranges = self.ranges.iter().flat_map(|one| other.ranges.iter().filter_map(move |two| overlap(one, two)));
-        Contents { null: self.null && other.null, ranges: ranges.collect() }
+        let (mut one, mut two) = (self.ranges.as_slice(), other.ranges.as_slice());
+        let mut ranges = Vec::new();
+        while let (&[(a, b), ref after_one @ ..], &[(c, d), ref after_two @ ..]) = (one, two) {
+            if a.max(c) <= b.min(d) {
+                ranges.push((a.max(c), b.min(d)));
+            }
+            if b <= d {
+                one = after_one;
+            } else {
+                two = after_two;
+            }
+        }
+        Contents { null: self.null && other.null, ranges }
     }
 
     /// The set without null.
