@@ -1,2 +1,5 @@
 pub mod NumberLaws
 pub mod OneLaws
+pub mod VerdictLaws
+pub mod AnswerLaws
+pub mod Demands
