@@ -1,0 +1,3 @@
+pub mod PlanLaws
+pub mod WordLaws
+pub mod LaidLaws
