@@ -2,32 +2,31 @@
 //! damaged inputs and on the run cases. FIDDLECOMET_QUESTIONS asks for more than the gate's 20,000
 //! for each call, FIDDLECOMET_SEED for others.
 //!
-//! Without the library nothing is compared, and the tests say so; host/run decides whether that may be.
+//! A call that the library doesn't export isn't compared, and its test says so; host/run decides
+//! whether that may be.
 
-use fiddlecomet_host::library::STANDS;
+use fiddlecomet_host::cases::{groups, Asked};
+use fiddlecomet_host::compare::compare;
+use fiddlecomet_host::library::exports;
+use fiddlecomet_host::library::fenced::Library;
+use fiddlecomet_host::question::{Answers, Reading};
 
 fn number(variable: &str, otherwise: u64) -> u64 {
     std::env::var(variable).ok().map_or(otherwise, |text| text.parse().expect("a number"))
 }
 
-#[cfg(linked)]
 fn against(call: &str) {
-    use fiddlecomet_host::compare::compare;
-    use fiddlecomet_host::library::fenced::Library;
-    use fiddlecomet_host::question::Reading;
     let questions = number("FIDDLECOMET_QUESTIONS", 20_000) as usize;
+    if !exports(call) {
+        println!("compared {call}: 0 of {questions} questions, the library doesn't export it");
+        return;
+    }
     match compare(&Reading, &Library::default(), call, number("FIDDLECOMET_SEED", 1), questions) {
         Ok(compared) => {
             println!("compared {call}: {} questions, {} answered", compared.questions(), compared.answered())
         }
         Err(difference) => panic!("{call} differs\n{difference}"),
     }
-}
-
-#[cfg(not(linked))]
-fn against(call: &str) {
-    let questions = number("FIDDLECOMET_QUESTIONS", 20_000);
-    println!("compared {call}: 0 of {questions} questions, the library isn't built");
 }
 
 #[test]
@@ -62,25 +61,18 @@ fn listing() {
 
 #[test]
 fn the_run_cases() {
-    if !STANDS {
-        println!("compared run cases: 0, the library isn't built");
-        return;
-    }
-    #[cfg(linked)]
-    {
-        use fiddlecomet_host::cases::{groups, Asked};
-        use fiddlecomet_host::library::fenced::Library;
-        use fiddlecomet_host::question::Answers;
-        let library = Library::default();
-        let mut compared = 0;
-        for group in groups() {
-            for case in group.cases {
-                if let Asked::Call(question, reply) = case.asked {
+    let library = Library::default();
+    let (mut compared, mut left_out) = (0, 0);
+    for group in groups() {
+        for case in group.cases {
+            match case.asked {
+                Asked::Call(question, reply) if exports(question.call()) => {
                     assert_eq!(library.answer(&question), reply, "{}: {}", group.file, case.name);
                     compared += 1;
                 }
+                _ => left_out += 1,
             }
         }
-        println!("compared run cases: {compared}");
     }
+    println!("compared run cases: {compared} by the library, {left_out} of calls that it doesn't export");
 }

@@ -1,6 +1,7 @@
 //! PostgreSQL hands out the same rows: random sheets as CREATE TABLE and CREATE POLICY, row security
 //! forced, a plain role, settings as keys; what each command reaches is what the listing gives.
 
+use fiddlecomet_host::library::{self, exports};
 use fiddlecomet_host::making::random::Random;
 use fiddlecomet_host::making::sheets;
 use fiddlecomet_host::postgres::{server::Server, sql};
@@ -97,16 +98,14 @@ fn the_same_rows_come_out() {
         };
         assert_eq!((listed.rows, &out[..listed.length]), (ids.len(), &expected[..]), "the reading: {}", about());
         reached[one.command as usize] += ids.len();
-        #[cfg(linked)]
-        {
+        if exports("listing") {
             let mut out = vec![0; rows.len()];
-            let listed =
-                fiddlecomet_host::library::listing(&one.sheet, one.table, one.command, &one.session, &rows, &mut out);
+            let listed = library::listing(&one.sheet, one.table, one.command, &one.session, &rows, &mut out);
             assert_eq!((listed.refusal, listed.rows as usize), (0, ids.len()), "the library: {}", about());
             assert_eq!(out[..listed.length as usize], expected, "the library: {}", about());
         }
     }
-    let library = if fiddlecomet_host::library::STANDS { asked.len() } else { 0 };
+    let library = if exports("listing") { asked.len() } else { 0 };
     println!("PostgreSQL: {SHEETS} sheets, {} listings by the reading, {library} by the library, rows handed out {reached:?}", asked.len());
     assert!(asked.len() > 4 * SHEETS && reached.iter().all(|&rows| rows > 200), "{reached:?}");
 }
