@@ -2,3 +2,4 @@ pub mod JoinLaws
 pub mod PickLaws
 pub mod CountLaws
 pub mod SheetLaws
+pub mod FillLaws

@@ -5,7 +5,13 @@
 // which say what roles and counts a sheet's policies have.
 ghost use mathlib.Core.Path.{_≡_};
 ghost use Prim.Native.Nat.{ℕ, _+_, _*_, _<_, _≤_, min};
-ghost use Rattle.branches.specs.Parts.{term, factor, sumTo, productTo, Splits, Finds, Picks};
+ghost use mathlib.Core.List.{List};
+ghost use lib.ListN.{length};
+ghost use Rattle.meaning.specs.Sheets.{Sheet};
+ghost use Rattle.meaning.specs.Allowed.{SheetAllowed};
+ghost use Rattle.sheet.specs.Directory.{Described};
+ghost use Rattle.branches.specs.Parts.{term, factor, sumTo, productTo, Splits, Finds, Picks, CountsAre};
+use sheet::Directory;
 
 // No clause has this number.
 const NONE: u64 = 8;
@@ -142,4 +148,23 @@ pub fn pick(roles: [u64; 16], counts: [u64; 16], k: u64) -> Branch
     let p = q.policy;
     slots[p] = q.clause;
     Branch { policy: p, slots }
+}
+
+// The clause counts of a sheet's policies.
+pub fn counts(d: Directory) -> [u64; 16]
+    ensures { λ r. ⌜ ((s : List ℕ) (sheet : Sheet) → Described s sheet d → SheetAllowed sheet → CountsAre sheet r) ⌝ }
+{
+    let n = d.policies;
+    let mut counts = [0u64; 16];
+    let mut p: usize = 0;
+    while p < 16 {
+        if n <= p as u64 {
+            return counts;
+        }
+        let policy = d.policy[p];
+        let count = policy.count;
+        counts[p] = count as u64;
+        p += 1;
+    }
+    counts
 }
