@@ -1,6 +1,7 @@
 //! Fiddlecomet seen from outside: an independent reading of document 01, inputs made and damaged,
 //! the library called and compared, PostgreSQL asked the same.
 
+pub mod bench;
 pub mod cases;
 pub mod compare;
 pub mod examples;
