@@ -6,6 +6,7 @@ use mathlib.Core.Bool.{Bool, true, false, cond, _&&_}
 use mathlib.Core.List.{List, [], _∷_, _++_, map, append-assoc}
 use lib.ListN.{length, getD, set, length-set, length-map, take, drop}
 use lib.Seq.{take-all, take-suc, take-length, getD-take, getD-set-same, getD-set-other}
+use borrow.Author.Count.{below-more}
 use lib.Dec.{leb, ltb, eqb}
 use borrow.Author.Tests.{ltb-true, ltb-false, lt-ltb, le-ltb, le-leb, lt-leb, eqb-true, eq-eqb, ne-eqb}
 use Rattle.meaning.specs.Atoms as m
@@ -18,6 +19,11 @@ use Rattle.asked.specs.Words.{numbersAt, wordAtom, wordAtoms, slotOf, se
 
 pub both : {A B C : Type 0} (f : A → B → C) {a a′ : A} {b b′ : B} → a ≡ a′ → b ≡ b′ → f a b ≡ f a′ b′
 both f p q = λ j. f (p j) (q j)
+
+-- one more element of a list that grows at n
+pub grow-new : (f : ℕ → ℕ) (vals : List ℕ) (n k x : ℕ) → n + k < length vals → ((j : ℕ) → j < k → getD vals (n + j) 0 ≡ f j) → x ≡ f k → (j : ℕ) → j < k + 1 → getD (set vals (n + k) x) (n + j) 0 ≡ f j
+grow-new f vals n k x l h e =
+    below-more (λ j. getD (set vals (n + k) x) (n + j) 0 ≡ f j) k (λ j d. getD-set-other vals (n + k) (n + j) x 0 (omega arith) ∙ h j d) (getD-set-same vals (n + k) x 0 l ∙ e)
 
 at : (s : List ℕ) (i j : ℕ) → i ≡ j → getD s i 0 ≡ getD s j 0
 at s i j e = ap (λ (k : ℕ). getD s k 0) e

@@ -19,7 +19,7 @@ use Rattle.meaning.specs.Atoms.{at-most, at-least, is-below, is-above, Operator
 use Rattle.meaning.specs.Steps.{on}
 use Rattle.meaning.specs.Views.{testOf, operatorOf}
 use Rattle.asked.specs.Words.{numbersAt, wordAtom, wordAtoms}
-use Rattle.reach.proofs.Core.{clash}
+use Rattle.reach.proofs.NeedLaws.{clash}
 
 -- each follows from the other
 abbrev pub Same : Type 0 → Type 0 → Type 0

@@ -21,7 +21,7 @@ use Rattle.meaning.specs.Questions.{Holds, IsSession}
 use Rattle.asked.specs.Words.{wordAtoms, slotOf, seenBy, seen}
 use Rattle.lists.specs.Decides.{Decides}
 use Rattle.asked.specs.Asked.{Ranges, There, Uses, Unlike, three, Both}
-use Rattle.reach.proofs.Core.{clash}
+use Rattle.reach.proofs.NeedLaws.{clash}
 use Rattle.asked.proofs.Laying.{both, slot-lt, slot-key, slot-column}
 use Rattle.asked.proofs.Sense.{told, said, told-said, said-told, and-true, every-append, append-every, sat-met, met-sat}
 

@@ -27,7 +27,7 @@ use Rattle.meaning.specs.Views.{testOf, operatorOf, atomOf, clauseOf}
 use Rattle.asked.specs.Words.{wordAtoms, slotOf, seen, upTo8}
 use Rattle.lists.specs.Decides.{Decides}
 use Rattle.asked.specs.Asked.{Ranges, There, Uses, everyColumn, Tells, Unlike, three, Both, Differs, turnedOrder, turnedBy, turned, turnedNumber}
-use Rattle.reach.proofs.Core.{clash}
+use Rattle.reach.proofs.NeedLaws.{clash}
 use Rattle.asked.proofs.Laying.{both, words-same, map-append, nil-append, take-8, upTo8-le}
 use Rattle.asked.proofs.Sense.{and-both, and-true, every-append, append-every}
 use Rattle.asked.proofs.Shared.{answered, told-apart, three-with, slot-one}
@@ -498,17 +498,3 @@ implied-not top p q i n d r len l f e h sheet k u =
 
 pub turned-at : (op k : ℕ) → op ≡ k → turnedNumber k ≡ turnedNumber op
 turned-at op k e = sym (ap turnedNumber e)
-
-pub some-made : (v : ℕ) → atomOf (record { variable = v; operator = 8; other = 0; count = 0; values = 0 ∷ 0 ∷ 0 ∷ 0 ∷ 0 ∷ 0 ∷ 0 ∷ 0 ∷ [] }) ≡ on v is-not-null
-unfolding atomOf
-some-made v = refl
-
--- at most 258 atoms are lent
-
-take-at-most : (k : ℕ) (l : List ℕ) → length (take k l) ≤ k
-take-at-most zero l = omega arith
-take-at-most (suc k) [] = omega arith
-take-at-most (suc k) (x ∷ l) = let h = take-at-most k l in omega arith
-
-pub few-atoms : (k : ℕ) (words : List ℕ) → k ≤ 2838 → length (take k words) / 11 ≤ 258
-few-atoms k words l = let h = take-at-most k words in omega arith

@@ -216,7 +216,7 @@ pub fn clause_covers(p: Clause, q: Clause, top: [u64; 32]) -> bool
 
 // Do some row and session meet the clause whose n atoms are laid?
 pub fn meets(words: &[u64], n: usize, top: [u64; 32]) -> bool
-    requires { ⌜ (n ≤ 258) × (n * 11 ≤ length (now words)) ⌝ }
+    requires { ⌜ n * 11 ≤ length (now words) ⌝ }
     ensures { λ r. ⌜ TellsMeets (now (words .entry)) n top r ⌝ }
 {
     let m = n * 11;
@@ -225,7 +225,7 @@ pub fn meets(words: &[u64], n: usize, top: [u64; 32]) -> bool
 
 // Does some row meet the first of the laid clauses with one session and the second with a session of another tenant?
 pub fn leaks(words: &[u64], n: usize, top: [u64; 32]) -> bool
-    requires { ⌜ (n ≤ 258) × (n * 11 ≤ length (now words)) ⌝ }
+    requires { ⌜ n * 11 ≤ length (now words) ⌝ }
     ensures { λ r. ⌜ TellsLeak (now (words .entry)) n top r ⌝ }
 {
     let m = n * 11;

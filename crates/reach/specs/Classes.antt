@@ -1,15 +1,15 @@
--- Classes of equal variables, and the struck-out values of one class gathered.
-use Prim.Native.Nat.{ℕ, _+_, _≤_, _<_, _^_}
+-- Classes of equal variables, and the least value of one class.
+use Prim.Native.Nat.{ℕ, _+_, _*_, _≤_, _<_, _^_}
 use mathlib.Core.Path.{_≡_}
-use mathlib.Core.List.{List, [], _∷_}
-use lib.ListN.{getD}
+use mathlib.Core.List.{List}
+use lib.ListN.{length, getD}
 use lib.Dec.{eqb}
-use mathlib.Core.Bool.{true}
-use Rattle.reach.specs.Meaning.{Content, wants, allows, varAt, opAt, testAt, atoms}
+use mathlib.Core.Bool.{true, false}
+use Rattle.reach.specs.Meaning.{Test, Content, wants, allows, varAt, opAt, testAt, atoms}
 use Rattle.reach.specs.Search.{mateAt, Met, pickN}
 use Rattle.reach.specs.declared.Found.{Found}
 use Rattle.reach.specs.declared.Found.the-variants.{At, Nothing}
-use Rattle.reach.specs.declared.Struck.{Struck}
+use Rattle.reach.specs.declared.Span.{Span}
 
 -- the label l, with b renamed to a
 abbrev pub renamed : ℕ → ℕ → ℕ → ℕ
@@ -27,50 +27,80 @@ pub record Classes (s : List ℕ) (k : ℕ) (rep : List ℕ) : Type 0 where
 abbrev pub Allowed : List ℕ → List ℕ → ℕ → ℕ → Type 0
 Allowed s rep r x = (i : ℕ) → i < atoms s → getD rep (varAt s i) 0 ≡ r → allows (testAt s i) x
 
--- x is none of the first n of vals
-abbrev pub Free : List ℕ → ℕ → ℕ → Type 0
-Free vals n x = (m : ℕ) → m < n → getD vals m 0 ≡ x → ⊥
+-- atom i is of class r
+abbrev pub Of : List ℕ → List ℕ → ℕ → ℕ → Type 0
+Of s rep r i = getD rep (varAt s i) 0 ≡ r
 
--- the first n of vals are what the not-in lists among the first k atoms strike out of class r
-pub record Strikes (s rep : List ℕ) (r k : ℕ) (t : Struck) : Type 0 where
-  pub covers : (x : ℕ) → Free (t .vals) (t .n) x → (i : ℕ) → i < k → getD rep (varAt s i) 0 ≡ r → opAt s i ≡ 2 → allows (testAt s i) x
-  pub only : (x : ℕ) → Allowed s rep r x → Free (t .vals) (t .n) x
+-- the values that the test t of operator op allows lie in low..=high, and, where it is no list, they are all of these
+pub record Bounds (t : Test) (op low high : ℕ) : Type 0 where
+  pub under : (n : ℕ) → allows t n → low ≤ n
+  pub over : (n : ℕ) → n < 2 ^ 64 → allows t n → n ≤ high
+  pub whole : (op ≡ 1 → ⊥) → (op ≡ 2 → ⊥) → (n : ℕ) → low ≤ n → n ≤ high → allows t n
 
--- c numbers of s from b are added
-pub record Added (s : List ℕ) (b c : ℕ) (t out : Struck) : Type 0 where
-  pub count : out .n ≡ t .n + c
-  pub old : (m : ℕ) → m < t .n → getD (out .vals) m 0 ≡ getD (t .vals) m 0
-  pub new : (k : ℕ) → k < c → getD (out .vals) (t .n + k) 0 ≡ getD s (b + k) 0
+-- the same of class r from start on, by its first k atoms; and whether there is an in-list, or a not-in list, among them
+pub record Spans (s rep : List ℕ) (r start k : ℕ) (t : Span) : Type 0 where
+  pub from : start ≤ t .low
+  pub under : (n : ℕ) → start ≤ n → Allowed s rep r n → t .low ≤ n
+  pub over : (n : ℕ) → n < 2 ^ 64 → Allowed s rep r n → n ≤ t .high
+  pub whole : (n : ℕ) → t .low ≤ n → n ≤ t .high → (i : ℕ) → i < k → Of s rep r i → (opAt s i ≡ 1 → ⊥) → (opAt s i ≡ 2 → ⊥) → allows (testAt s i) n
+  pub listed : t .list < atoms s → Of s rep r (t .list) × (opAt s (t .list) ≡ 1)
+  pub unlisted : atoms s ≤ t .list → (i : ℕ) → i < k → Of s rep r i → opAt s i ≡ 1 → ⊥
+  pub unstruck : t .struck ≡ false → (i : ℕ) → i < k → Of s rep r i → opAt s i ≡ 2 → ⊥
+
+-- the first c values of atom i are marked by how far they lie above x
+pub record Strikes (s : List ℕ) (i x c : ℕ) (old marks : List ℕ) : Type 0 where
+  pub size : length marks ≡ length old
+  pub free : (j : ℕ) → j < 2112 → getD marks j 0 ≡ 0 → (getD old j 0 ≡ 0) × ((k : ℕ) → k < c → getD s (i * 11 + 3 + k) 0 ≡ x + j → ⊥)
+  pub struck : (j : ℕ) → (getD marks j 0 ≡ 0 → ⊥) → getD old j 0 ≡ 0 → (k : ℕ) × (k < c) × (getD s (i * 11 + 3 + k) 0 ≡ x + j)
+
+-- of x, x + 1, .. those are marked that the not-in lists among the first k atoms strike out of class r
+pub record Marks (s rep : List ℕ) (r x k : ℕ) (marks : List ℕ) : Type 0 where
+  pub free : (j : ℕ) → j < 2112 → getD marks j 0 ≡ 0 → (i : ℕ) → i < k → Of s rep r i → opAt s i ≡ 2 → allows (testAt s i) (x + j)
+  pub struck : (j : ℕ) → (getD marks j 0 ≡ 0 → ⊥) → Allowed s rep r (x + j) → ⊥
+
+-- the first place that is not marked, or the number of places
+pub record Gap (marks : List ℕ) (j : ℕ) : Type 0 where
+  pub full : (k : ℕ) → k < j → getD marks k 0 ≡ 0 → ⊥
+  pub free : j < 2112 → getD marks j 0 ≡ 0
+
+-- the first of low..=high that no not-in list of class r strikes out, as far as the class's values go
+abbrev pub FirstFree : List ℕ → List ℕ → ℕ → ℕ → ℕ → Found → Type 0
+FirstFree s rep r low high (At y) =
+    (low ≤ y) × (y ≤ high) × ((i : ℕ) → i < atoms s → Of s rep r i → opAt s i ≡ 2 → allows (testAt s i) y) × ((n : ℕ) → low ≤ n → Allowed s rep r n → y ≤ n)
+FirstFree s rep r low high Nothing = (n : ℕ) → low ≤ n → n ≤ high → Allowed s rep r n → ⊥
+
+-- y passes the lists of atom i
+pub record Fair (s : List ℕ) (i y : ℕ) : Type 0 where
+  pub ins : opAt s i ≡ 1 → allows (testAt s i) y
+  pub outs : opAt s i ≡ 2 → allows (testAt s i) y
+
+-- a mark of y that stays or goes by the lists of atom i
+pub record Sifts (s : List ℕ) (i y old new : ℕ) : Type 0 where
+  pub stays : (new ≡ 0 → ⊥) → (old ≡ 0 → ⊥) × Fair s i y
+  pub goes : new ≡ 0 → (old ≡ 0 → ⊥) → allows (testAt s i) y → ⊥
+
+-- of the eight numbers from b on, those stay that pass the lists among the first k atoms of class r
+pub record Lives (s rep : List ℕ) (r b k : ℕ) (live : List ℕ) : Type 0 where
+  pub fair : (j : ℕ) → j < 8 → (getD live j 0 ≡ 0 → ⊥) → (i : ℕ) → i < k → Of s rep r i → Fair s i (getD s (b + j) 0)
+  pub gone : (j : ℕ) → j < 8 → getD live j 0 ≡ 0 → Allowed s rep r (getD s (b + j) 0) → ⊥
+
+-- the least in low..=high of those of the first k numbers from b on that are left
+abbrev pub Best : List ℕ → List ℕ → ℕ → ℕ → ℕ → ℕ → Found → Type 0
+Best s live b low high k (At m) =
+    (low ≤ m) × (m ≤ high) × ((j : ℕ) × (j < k) × (getD live j 0 ≡ 0 → ⊥) × (getD s (b + j) 0 ≡ m))
+    × ((j : ℕ) → j < k → (getD live j 0 ≡ 0 → ⊥) → low ≤ getD s (b + j) 0 → m ≤ getD s (b + j) 0)
+Best s live b low high k Nothing = (j : ℕ) → j < k → (getD live j 0 ≡ 0 → ⊥) → low ≤ getD s (b + j) 0 → getD s (b + j) 0 ≤ high → ⊥
+
+-- the least in low..=high of the eight numbers from b on that passes every list of class r, as far as the class's values are among them
+abbrev pub FirstListed : List ℕ → List ℕ → ℕ → ℕ → ℕ → ℕ → Found → Type 0
+FirstListed s rep r b low high (At y) =
+    (low ≤ y) × (y ≤ high) × ((i : ℕ) → i < atoms s → Of s rep r i → Fair s i y) × ((j : ℕ) → j < 8 → low ≤ getD s (b + j) 0 → Allowed s rep r (getD s (b + j) 0) → y ≤ getD s (b + j) 0)
+FirstListed s rep r b low high Nothing = (j : ℕ) → j < 8 → low ≤ getD s (b + j) 0 → getD s (b + j) 0 ≤ high → Allowed s rep r (getD s (b + j) 0) → ⊥
 
 -- the least value of class r at or above start
 abbrev pub LeastOf : List ℕ → List ℕ → ℕ → ℕ → Found → Type 0
 LeastOf s rep r start (At m) = (start ≤ m) × Allowed s rep r m × ((n : ℕ) → start ≤ n → Allowed s rep r n → m ≤ n)
 LeastOf s rep r start Nothing = (n : ℕ) → n < 2 ^ 64 → start ≤ n → Allowed s rep r n → ⊥
-
--- the sum of the numbers
-abbrev pub total : List ℕ → ℕ
-total [] = 0
-total (a ∷ l) = a + total l
-
--- mark j is 0 exactly where x + j is none of the first n of vals, and there are at most n marks
-pub record Marks (vals : List ℕ) (n x : ℕ) (marks : List ℕ) : Type 0 where
-  pub few : total marks ≤ n
-  pub free : (j : ℕ) → j < 2065 → getD marks j 0 ≡ 0 → Free vals n (x + j)
-  pub struck : (j : ℕ) → (getD marks j 0 ≡ 0 → ⊥) → (m : ℕ) × (m < n) × (getD vals m 0 ≡ x + j)
-
--- the first value at or above x that is none of the first n of vals
-abbrev pub FirstFree : List ℕ → ℕ → ℕ → Found → Type 0
-FirstFree vals n x (At y) = (x ≤ y) × Free vals n y × ((z : ℕ) → x ≤ z → Free vals n z → y ≤ z)
-FirstFree vals n x Nothing = (z : ℕ) → z < 2 ^ 64 → x ≤ z → Free vals n z → ⊥
-
--- place i of the search: an atom, or, past the last atom, the struck-out values
-pub record Fine (s rep : List ℕ) (r : ℕ) (vals : List ℕ) (n i x : ℕ) : Type 0 where
-  pub tests : i < atoms s → getD rep (varAt s i) 0 ≡ r → (opAt s i ≡ 2 → ⊥) → allows (testAt s i) x
-  pub free : atoms s ≤ i → Free vals n x
-
-abbrev pub Looked : List ℕ → List ℕ → ℕ → List ℕ → ℕ → ℕ → ℕ → Found → Type 0
-Looked s rep r vals n i x (At y) = (x ≤ y) × (y ≡ x → Fine s rep r vals n i x) × ((m : ℕ) → x ≤ m → Allowed s rep r m → Free vals n m → y ≤ m)
-Looked s rep r vals n i x Nothing = (m : ℕ) → m < 2 ^ 64 → x ≤ m → Allowed s rep r m → Free vals n m → ⊥
 
 -- the highest floor of class r among the variables below k
 pub record Highest (rep floor : List ℕ) (r k h : ℕ) : Type 0 where
@@ -80,3 +110,15 @@ pub record Highest (rep floor : List ℕ) (r k h : ℕ) : Type 0 where
 -- where an atom that wants a value is, its mate is needed
 pub record Closed (s need : List ℕ) : Type 0 where
   pub mates : (i : ℕ) → i < atoms s → wants (testAt s i) ≡ true → getD need (mateAt s i) 0 ≡ 0 → ⊥
+
+-- x is the least value of the class of v
+pub record Chosen (s rep floor : List ℕ) (v x : ℕ) : Type 0 where
+  pub high : (w : ℕ) → w < 32 → getD rep w 0 ≡ getD rep v 0 → getD floor w 0 ≤ x
+  pub allowed : Allowed s rep (getD rep v 0) x
+  pub least : (n : ℕ) → ((w : ℕ) → w < 32 → getD rep w 0 ≡ getD rep v 0 → getD floor w 0 ≤ n) → Allowed s rep (getD rep v 0) n → x ≤ n
+
+-- the same, or that there is none
+abbrev pub ChosenOr : List ℕ → List ℕ → List ℕ → ℕ → Found → Type 0
+ChosenOr s rep floor v (At x) = Chosen s rep floor v x
+ChosenOr s rep floor v Nothing =
+    (n : ℕ) → n < 2 ^ 64 → ((w : ℕ) → w < 32 → getD rep w 0 ≡ getD rep v 0 → getD floor w 0 ≤ n) → Allowed s rep (getD rep v 0) n → ⊥

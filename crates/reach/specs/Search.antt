@@ -6,26 +6,20 @@ use mathlib.Core.List.{List, [], _∷_}
 use lib.ListN.{length, getD, set, replicate}
 use lib.Dec.{eqb}
 use Rattle.reach.specs.Meaning.{Test, Content, Content.null, Content.value, Sat, allows, wants, passes, varAt, otherAt, opAt, testAt, atoms, Ordered, Differ}
-use Rattle.reach.specs.declared.Found.{Found}
-use Rattle.reach.specs.declared.Found.the-variants.{At, Nothing}
 use Rattle.reach.specs.declared.Settled.{Settled}
 use Rattle.reach.specs.declared.Solved.{Solved}
-
--- At m: m is at or above v, no allowed value lies between, and where m is v itself, v is allowed. Nothing: no allowed value at or above v.
-abbrev pub Stepped : Test → ℕ → Found → Type 0
-Stepped t v (At m) = (v ≤ m) × (m ≡ v → allows t v) × ((n : ℕ) → v ≤ n → allows t n → m ≤ n)
-Stepped t v Nothing = (n : ℕ) → n < 2 ^ 64 → v ≤ n → allows t n → ⊥
-
--- the least of f 0 .. f (k - 1) that is at or above v
-abbrev pub Best : (ℕ → ℕ) → ℕ → ℕ → Found → Type 0
-Best f v k (At m) = (v ≤ m) × ((j : ℕ) × (j < k) × (f j ≡ m)) × ((j : ℕ) → j < k → v ≤ f j → m ≤ f j)
-Best f v k Nothing = (j : ℕ) → j < k → v ≤ f j → ⊥
 
 -- the larger c of a and b
 pub record Larger (a b c : ℕ) : Type 0 where
   pub left : a ≤ c
   pub right : b ≤ c
   pub least : (n : ℕ) → a ≤ n → b ≤ n → c ≤ n
+
+-- the smaller c of a and b
+pub record Smaller (a b c : ℕ) : Type 0 where
+  pub left : c ≤ a
+  pub right : c ≤ b
+  pub most : (n : ℕ) → n ≤ a → n ≤ b → n ≤ c
 
 abbrev pub pickN : Bool → ℕ → ℕ → ℕ
 pickN true a b = a

@@ -5,11 +5,13 @@
 // dropped"); no contract above it says so. Stands on no other crate.
 ghost use mathlib.Core.Path.{_≡_};
 ghost use mathlib.Core.Bool.{true};
-ghost use Prim.Native.Nat.{ℕ, _+_, _*_, _/_, _%_, _≤_, _<_, _^_};
+ghost use Prim.Native.Nat.{ℕ, _+_, _*_, _/_, _%_, _≤_, _<_};
 ghost use lib.ListN.{length, getD};
-ghost use Rattle.reach.specs.Meaning.{Test, wants, testAt, varAt};
-ghost use Rattle.reach.specs.Search.{Larger, Stepped, Best, mateAt, Needs, Settles, Within, Solves, Answers, Lesser, Apart, Lowest, Tied, NullBeside, Parts};
-ghost use Rattle.reach.specs.Classes.{renamed, Renames, Classes, Strikes, Added, LeastOf, Marks, FirstFree, Looked, Highest, Closed};
+ghost use Rattle.reach.specs.Meaning.{Test, wants, opAt, testAt, varAt};
+ghost use Rattle.reach.specs.Search.{Larger, Smaller, mateAt, Needs, Settles, Within, Solves, Answers, Lesser, Apart, Lowest, Tied, NullBeside, Parts};
+ghost use Rattle.reach.specs.Classes.{renamed, Renames, Classes, Of, Bounds, Spans, Strikes, Marks, Gap, FirstFree, Sifts, Lives, Best, FirstListed, LeastOf, Highest, Closed, Chosen, ChosenOr};
+ghost use Rattle.lists.specs.Decides.{Decides};
+ghost use mathlib.Core.List.{List};
 
 pub enum Found {
     At(u64),
@@ -27,106 +29,40 @@ pub struct Solved {
     pub x: [u64; 32],
 }
 
-fn up_to(x: u64, v: u64) -> Found
-    ensures { λ r. ⌜ Stepped (Test.atMost x) v r ⌝ }
-{
-    if v <= x { Found::At(v) } else { Found::Nothing }
-}
-
-fn from(x: u64, v: u64) -> Found
-    ensures { λ r. ⌜ Stepped (Test.atLeast x) v r ⌝ }
-{
-    if v < x { Found::At(x) } else { Found::At(v) }
-}
-
-fn short_of(x: u64, v: u64) -> Found
-    ensures { λ r. ⌜ Stepped (Test.under x) v r ⌝ }
-{
-    if v < x { Found::At(v) } else { Found::Nothing }
-}
-
-fn past(x: u64, v: u64) -> Found
-    ensures { λ r. ⌜ Stepped (Test.over x) v r ⌝ }
-{
-    if x < v {
-        Found::At(v)
-    } else if x < 18446744073709551615 {
-        Found::At(x + 1)
-    } else {
-        Found::Nothing
-    }
-}
-
-// The nearer of what was found and y, at or above v.
-fn closer(best: Found, v: u64, y: u64) -> Found
-    ensures { λ r. ⌜ ((f : ℕ → ℕ) (k : ℕ) → Best f v k best → f k ≡ y → Best f v (k + 1) r) ⌝ }
-{
-    if y < v {
-        return best;
-    }
-    match best {
-        Found::Nothing => Found::At(y),
-        Found::At(m) => { if y < m { Found::At(y) } else { Found::At(m) } }
-    }
-}
-
-// The first value at or above v among the c numbers of s that start at b.
-fn next_in(s: &[u64], b: usize, c: usize, v: u64) -> Found
-    requires { ⌜ (c ≤ 8) × (b + 8 ≤ length (now s)) ⌝ }
-    ensures { λ r. ⌜ Stepped (Test.oneOf c (λ k. getD (now (s .entry)) (b + k) 0)) v r ⌝ }
-{
-    let mut k = 0;
-    let mut best = Found::Nothing;
-    while k < c {
-        best = closer(best, v, s[b + k]);
-        k += 1;
-    }
-    best
-}
-
-// v, or one more where v is among the c numbers of s that start at b.
-fn next_out(s: &[u64], b: usize, c: usize, v: u64) -> Found
-    requires { ⌜ b + c ≤ length (now s) ⌝ }
-    ensures { λ r. ⌜ Stepped (Test.noneOf c (λ k. getD (now (s .entry)) (b + k) 0)) v r ⌝ }
-{
-    let mut k = 0;
-    while k < c {
-        if s[b + k] == v {
-            if v < 18446744073709551615 {
-                return Found::At(v + 1);
-            }
-            return Found::Nothing;
-        }
-        k += 1;
-    }
-    Found::At(v)
-}
-
-// One step for the test of atom i.
-fn step(s: &[u64], i: usize, v: u64) -> Found
-    requires { ⌜ i < length (now s) / 11 ⌝ }
-    ensures { λ r. ⌜ Stepped (testAt (now (s .entry)) i) v r ⌝ }
-{
-    let b = i * 11;
-    let op = s[b + 1];
-    let c = (s[b + 2] % 9) as usize;
-    let x = s[b + 3];
-    match op {
-        1 => next_in(s, b + 3, c, v),
-        2 => next_out(s, b + 3, c, v),
-        3 => up_to(x, v),
-        4 => from(x, v),
-        5 => short_of(x, v),
-        6 => past(x, v),
-        7 => Found::Nothing,
-        _ => Found::At(v),
-    }
-}
-
 fn larger(a: u64, b: u64) -> u64
     ensures { λ r. ⌜ Larger a b r ⌝ }
 {
     if a < b { b } else { a }
+}
+
+fn smaller(a: u64, b: u64) -> u64
+    ensures { λ r. ⌜ Smaller a b r ⌝ }
+{
+    if a < b { a } else { b }
+}
+
+fn range_under(x: u64) -> Range
+    ensures { λ r. ⌜ Bounds (Test.under x) 5 (r .low) (r .high) ⌝ }
+{
+    if x == 0 {
+        return Range { low: 1, high: 0 };
+    }
+    Range {
+        low: 0,
+        high: x - 1,
+    }
+}
+
+fn range_over(x: u64) -> Range
+    ensures { λ r. ⌜ Bounds (Test.over x) 6 (r .low) (r .high) ⌝ }
+{
+    if 18446744073709551615 <= x {
+        return Range { low: 1, high: 0 };
+    }
+    Range {
+        low: x + 1,
+        high: 18446744073709551615,
+    }
 }
 
 fn wanting(s: &[u64], i: usize) -> bool
@@ -194,9 +130,18 @@ fn within(need: [u64; 32], x: [u64; 32], top: [u64; 32]) -> bool
 
 // --- by classes: the struck-out values of one class gathered before the search
 
-pub struct Struck {
-    pub n: usize,
-    pub vals: [u64; 2064],
+// A range of values; where high is below low there are none.
+pub struct Range {
+    pub low: u64,
+    pub high: u64,
+}
+
+// What the atoms of one class say: a range, an atom with an in-list (the number of atoms where there is none), whether values are struck out.
+pub struct Span {
+    pub low: u64,
+    pub high: u64,
+    pub list: usize,
+    pub struck: bool,
 }
 
 // Each variable is its own class.
@@ -234,6 +179,7 @@ fn rename(rep: [u64; 32], a: u64, b: u64) -> [u64; 32]
     out
 }
 
+// Equated variables get one label, the lesser of their two.
 fn classes_of(s: &[u64]) -> [u64; 32]
     ensures { λ r. ⌜ Classes (now (s .entry)) (length (now (s .entry)) / 11) r ⌝ }
 {
@@ -243,155 +189,311 @@ fn classes_of(s: &[u64]) -> [u64; 32]
     while i < n {
         let v = var_at(s, i);
         let p = mate_at(s, i);
-        rep = rename(rep, rep[v], rep[p]);
+        let a = rep[v];
+        let b = rep[p];
+        if a == b {
+            i += 1;
+            continue;
+        }
+        if a < b {
+            rep = rename(rep, a, b);
+            i += 1;
+            continue;
+        }
+        rep = rename(rep, b, a);
         i += 1;
     }
     rep
 }
 
-// The c numbers of s from b are added.
-fn strike(s: &[u64], b: usize, c: usize, t: Struck) -> Struck
-    requires { ⌜ (b + c ≤ length (now s)) × (t .n + c ≤ 2064) ⌝ }
-    ensures { λ r. ⌜ Added (now (s .entry)) b c t r ⌝ }
-{
-    let n = t.n;
-    let mut vals = t.vals;
-    let mut k = 0;
-    while k < c {
-        vals[n + k] = s[b + k];
-        k += 1;
-    }
-    Struck { n: n + c, vals }
-}
-
-// What atom i strikes out of class r is added.
-fn strike_atom(s: &[u64], rep: [u64; 32], r: u64, i: usize, t: Struck) -> Struck
-    requires { ⌜ (i < length (now s) / 11) × (t .n + 8 ≤ 2064) ⌝ }
-    ensures more { λ o. ⌜ (Strikes (now (s .entry)) rep r i t → Strikes (now (s .entry)) rep r (i + 1) o) ⌝ }
-    ensures few { λ o. ⌜ o .n ≤ t .n + 8 ⌝ }
+// The values that atom i allows lie in this range; where it is no list, they are all of it.
+fn range_at(s: &[u64], i: usize) -> Range
+    requires { ⌜ i < length (now s) / 11 ⌝ }
+    ensures { λ r. ⌜ Bounds (testAt (now (s .entry)) i) (opAt (now (s .entry)) i) (r .low) (r .high) ⌝ }
 {
     let b = i * 11;
-    let v = var_at(s, i);
-    if rep[v] == r {
-        if s[b + 1] == 2 {
-            let c = (s[b + 2] % 9) as usize;
-            return strike(s, b + 3, c, t);
-        }
-        return t;
+    let op = s[b + 1];
+    let x = s[b + 3];
+    match op {
+        3 => Range { low: 0, high: x },
+        4 => Range {
+            low: x,
+            high: 18446744073709551615,
+        },
+        5 => range_under(x),
+        6 => range_over(x),
+        7 => Range { low: 1, high: 0 },
+        _ => Range {
+            low: 0,
+            high: 18446744073709551615,
+        },
     }
-    t
 }
 
-// The struck-out values of class r.
-fn gather(s: &[u64], rep: [u64; 32], r: u64) -> Struck
-    requires { ⌜ length (now s) / 11 ≤ 258 ⌝ }
-    ensures all { λ t. ⌜ Strikes (now (s .entry)) rep r (length (now (s .entry)) / 11) t ⌝ }
-    ensures few { λ t. ⌜ t .n ≤ 2064 ⌝ }
+// The range of a class, narrowed by its atom i.
+fn narrow(s: &[u64], i: usize, t: Span) -> Span
+    requires { ⌜ i < length (now s) / 11 ⌝ }
+    ensures { λ o. ⌜ ((rep : List ℕ) (r start : ℕ) → Of (now (s .entry)) rep r i → Spans (now (s .entry)) rep r start i t → Spans (now (s .entry)) rep r start (i + 1) o) ⌝ }
+{
+    let g = range_at(s, i);
+    let low = larger(t.low, g.low);
+    let high = smaller(t.high, g.high);
+    let op = s[i * 11 + 1];
+    if op == 1 {
+        return Span {
+            low,
+            high,
+            list: i,
+            struck: t.struck,
+        };
+    }
+    if op == 2 {
+        return Span {
+            low,
+            high,
+            list: t.list,
+            struck: true,
+        };
+    }
+    Span {
+        low,
+        high,
+        list: t.list,
+        struck: t.struck,
+    }
+}
+
+// The range of class r from start on: bounds in one pass.
+fn span_of(s: &[u64], rep: [u64; 32], r: u64, start: u64) -> Span
+    ensures { λ t. ⌜ Spans (now (s .entry)) rep r start (length (now (s .entry)) / 11) t ⌝ }
 {
     let n = s.len() / 11;
-    let mut t = Struck {
-        n: 0,
-        vals: [0u64; 2064],
+    let mut t = Span {
+        low: start,
+        high: 18446744073709551615,
+        list: n,
+        struck: false,
     };
     let mut i = 0;
     while i < n {
-        t = strike_atom(s, rep, r, i, t);
-        i += 1;
+        let v = var_at(s, i);
+        if rep[v] == r {
+            t = narrow(s, i, t);
+            i += 1;
+        } else {
+            i += 1;
+        }
     }
     t
 }
 
-// The struck-out values marked by how far they lie above x.
-fn mark(vals: &[u64; 2064], n: usize, x: u64) -> [u64; 2065]
-    requires { ⌜ n ≤ 2064 ⌝ }
-    ensures { λ r. ⌜ Marks (now (vals .entry)) n x r ⌝ }
+// What atom i strikes out is marked by how far it lies above x.
+fn strike(s: &[u64], i: usize, x: u64, marks: &mut [u8; 2112])
+    requires { ⌜ (i < length (now s) / 11) × (length (now marks) ≡ 2112) ⌝ }
+    ensures { λ r. ⌜ Strikes (now (s .entry)) i x (getD (now (s .entry)) (i * 11 + 2) 0 % 9) (now (marks .entry)) (now (marks .exit)) ⌝ }
 {
-    let mut marks = [0u64; 2065];
+    let b = i * 11 + 3;
+    let c = (s[i * 11 + 2] % 9) as usize;
     let mut k = 0;
-    while k < n {
-        let v = vals[k];
+    while k < c {
+        let v = s[b + k];
         if v < x {
             k += 1;
             continue;
         }
         let d = (v - x) as usize;
-        if 2065 <= d {
+        if 2112 <= d {
             k += 1;
             continue;
         }
         marks[d] = 1;
         k += 1;
     }
+}
+
+// The struck-out values of class r from x on, gathered: more places than eight values of each of 258 atoms.
+fn gather(s: &[u64], rep: [u64; 32], r: u64, x: u64) -> [u8; 2112]
+    ensures { λ m. ⌜ Marks (now (s .entry)) rep r x (length (now (s .entry)) / 11) m ⌝ }
+{
+    let n = s.len() / 11;
+    let mut marks = [0u8; 2112];
+    let mut i = 0;
+    while i < n {
+        let v = var_at(s, i);
+        if rep[v] == r {
+            if s[i * 11 + 1] == 2 {
+                strike(s, i, x, &mut marks);
+                i += 1;
+            } else {
+                i += 1;
+            }
+        } else {
+            i += 1;
+        }
+    }
     marks
 }
 
-// The first value at or above x that is not struck out. It lies within n of x, so that one pass over the marks finds it.
-fn first_free(vals: &[u64; 2064], n: usize, x: u64) -> Found
-    requires { ⌜ n ≤ 2064 ⌝ }
-    ensures { λ f. ⌜ FirstFree (now (vals .entry)) n x f ⌝ }
+fn gap(marks: &[u8; 2112]) -> usize
+    ensures { λ j. ⌜ Gap (now (marks .entry)) j × (j ≤ 2112) ⌝ }
 {
-    let marks = mark(vals, n, x);
-    let mut j: usize = 0;
-    while j < 2065 {
+    let mut j = 0;
+    while j < 2112 {
         if marks[j] == 0 {
-            let d = j as u64;
-            if 18446744073709551615 - x < d {
-                return Found::Nothing;
-            }
-            return Found::At(x + d);
+            return j;
         }
         j += 1;
+    }
+    j
+}
+
+// The first of low..=high that is not struck out. It lies within the number of struck-out values of low, so that one gathering finds it
+// where there are at most 258 atoms; with more there may be more gatherings.
+fn first_free(s: &[u64], rep: [u64; 32], r: u64, low: u64, high: u64) -> Found
+    ensures { λ f. ⌜ FirstFree (now (s .entry)) rep r low high f ⌝ }
+{
+    let mut x = low;
+    while x <= high {
+        let marks = gather(s, rep, r, x);
+        let j = gap(&marks);
+        let d = j as u64;
+        if high - x < d {
+            return Found::Nothing;
+        }
+        if j < 2112 {
+            return Found::At(x + d);
+        }
+        x += d;
     }
     Found::Nothing
 }
 
-// One step of the search at place i.
-fn look(s: &[u64], rep: [u64; 32], r: u64, vals: &[u64; 2064], n: usize, i: usize, x: u64) -> Found
-    requires { ⌜ n ≤ 2064 ⌝ }
-    ensures { λ f. ⌜ Looked (now (s .entry)) rep r (now (vals .entry)) n i x f ⌝ }
+// Is y among the c numbers of s from b on?
+fn among(s: &[u64], b: usize, c: usize, y: u64) -> bool
+    requires { ⌜ b + c ≤ length (now s) ⌝ }
+    ensures { λ r. ⌜ Decides ((k : ℕ) × (k < c) × (getD (now (s .entry)) (b + k) 0 ≡ y)) r ⌝ }
 {
-    if s.len() / 11 <= i {
-        return first_free(vals, n, x);
-    }
-    let v = var_at(s, i);
-    if rep[v] == r {
-        let op = s[i * 11 + 1];
-        if op == 2 {
-            return Found::At(x);
+    let mut k = 0;
+    while k < c {
+        if s[b + k] == y {
+            return true;
         }
-        return step(s, i, x);
+        k += 1;
     }
-    Found::At(x)
+    false
 }
 
-// The least value of class r at or above start.
-fn least_class(s: &[u64], rep: [u64; 32], r: u64, start: u64) -> Found
-    requires { ⌜ length (now s) / 11 ≤ 258 ⌝ }
-    ensures { λ f. ⌜ LeastOf (now (s .entry)) rep r start f ⌝ }
+// The mark of y stays where y passes atom i's list.
+fn sift_one(s: &[u64], i: usize, y: u64, old: u8) -> u8
+    requires { ⌜ i < length (now s) / 11 ⌝ }
+    ensures { λ r. ⌜ Sifts (now (s .entry)) i y old r ⌝ }
+{
+    let b = i * 11;
+    let op = s[b + 1];
+    let c = (s[b + 2] % 9) as usize;
+    if op == 1 {
+        if among(s, b + 3, c, y) {
+            return old;
+        }
+        return 0;
+    }
+    if op == 2 {
+        if among(s, b + 3, c, y) {
+            return 0;
+        }
+        return old;
+    }
+    old
+}
+
+// Of the eight numbers from b on those stay that pass atom i's list.
+fn sift(s: &[u64], b: usize, i: usize, live: [u8; 8]) -> [u8; 8]
+    requires { ⌜ (i < length (now s) / 11) × (b + 8 ≤ length (now s)) ⌝ }
+    ensures { λ r. ⌜ ((k : ℕ) → k < 8 → Sifts (now (s .entry)) i (getD (now (s .entry)) (b + k) 0) (getD live k 0) (getD r k 0)) ⌝ }
+{
+    let mut out = [0u8; 8];
+    let mut k = 0;
+    while k < 8 {
+        out[k] = sift_one(s, i, s[b + k], live[k]);
+        k += 1;
+    }
+    out
+}
+
+// Of the eight numbers from b on those stay that pass every list of class r.
+fn sift_all(s: &[u64], rep: [u64; 32], r: u64, b: usize) -> [u8; 8]
+    requires { ⌜ b + 8 ≤ length (now s) ⌝ }
+    ensures { λ o. ⌜ Lives (now (s .entry)) rep r b (length (now (s .entry)) / 11) o ⌝ }
 {
     let n = s.len() / 11;
-    let t = gather(s, rep, r);
-    let vals = t.vals;
-    let m = t.n;
-    let mut x = start;
+    let mut live = [1u8; 8];
     let mut i = 0;
-    while i <= n {
-        let f = look(s, rep, r, &vals, m, i, x);
-        match f {
-            Found::Nothing => {
-                return Found::Nothing;
-            }
-            Found::At(y) => {
-                if y == x {
-                    i += 1;
-                } else {
-                    x = y;
-                    i = 0;
-                }
-            }
+    while i < n {
+        let v = var_at(s, i);
+        if rep[v] == r {
+            let next = sift(s, b, i, live);
+            live = next;
+            i += 1;
+        } else {
+            i += 1;
         }
     }
-    Found::At(x)
+    live
+}
+
+// The less of what was found and y, where y is left and lies in low..=high.
+fn nearer(best: Found, left: u8, y: u64, low: u64, high: u64) -> Found
+    ensures { λ r. ⌜ ((s live : List ℕ) (b k : ℕ) → getD live k 0 ≡ left → getD s (b + k) 0 ≡ y → Best s live b low high k best → Best s live b low high (k + 1) r) ⌝ }
+{
+    if left == 0 {
+        return best;
+    }
+    if y < low {
+        return best;
+    }
+    if high < y {
+        return best;
+    }
+    match best {
+        Found::Nothing => Found::At(y),
+        Found::At(m) => { if y < m { Found::At(y) } else { Found::At(m) } }
+    }
+}
+
+// The least in low..=high of the eight numbers from b on that passes every list of class r.
+fn least_listed(s: &[u64], rep: [u64; 32], r: u64, b: usize, low: u64, high: u64) -> Found
+    requires { ⌜ b + 8 ≤ length (now s) ⌝ }
+    ensures { λ f. ⌜ FirstListed (now (s .entry)) rep r b low high f ⌝ }
+{
+    let live = sift_all(s, rep, r, b);
+    let mut best = Found::Nothing;
+    let mut k = 0;
+    while k < 8 {
+        best = nearer(best, live[k], s[b + k], low, high);
+        k += 1;
+    }
+    best
+}
+
+// The least value of class r at or above start: one of an in-list where there is one, else the first that is not struck out.
+fn least_class(s: &[u64], rep: [u64; 32], r: u64, start: u64) -> Found
+    ensures { λ f. ⌜ LeastOf (now (s .entry)) rep r start f ⌝ }
+{
+    let t = span_of(s, rep, r, start);
+    let low = t.low;
+    let high = t.high;
+    let list = t.list;
+    let struck = t.struck;
+    if high < low {
+        return Found::Nothing;
+    }
+    if list < s.len() / 11 {
+        return least_listed(s, rep, r, list * 11 + 3, low, high);
+    }
+    if struck {
+        return first_free(s, rep, r, low, high);
+    }
+    Found::At(low)
 }
 
 fn class_floor(rep: [u64; 32], floor: [u64; 32], r: u64) -> u64
@@ -410,9 +512,34 @@ fn class_floor(rep: [u64; 32], floor: [u64; 32], r: u64) -> u64
     h
 }
 
+// The least value of the class of v: that of an earlier variable of the class, or searched for.
+fn class_value(
+    s: &[u64],
+    need: [u64; 32],
+    rep: [u64; 32],
+    floor: [u64; 32],
+    x: [u64; 32],
+    v: usize,
+) -> Found
+    requires { ⌜ v < 32 ⌝ }
+    ensures { λ f. ⌜ ((chosen : (w : ℕ) → w < v → (getD need w 0 ≡ 0 → ⊥) → Chosen (now (s .entry)) rep floor w (getD x w 0)) → ChosenOr (now (s .entry)) rep floor v f) ⌝ }
+{
+    let r = rep[v];
+    if r < v as u64 {
+        let u = r as usize;
+        if need[u] != 0 {
+            if rep[u] == r {
+                return Found::At(x[u]);
+            }
+        }
+    }
+    let h = class_floor(rep, floor, r);
+    least_class(s, rep, r, h)
+}
+
 // The least value of each class of needed variables.
 fn settle(s: &[u64], need: [u64; 32], floor: [u64; 32]) -> Settled
-    requires { ⌜ (length (now s) / 11 ≤ 258) × Closed (now s) need ⌝ }
+    requires { ⌜ Closed (now s) need ⌝ }
     ensures { λ r. ⌜ Settles (now (s .entry)) need floor r ⌝ }
 {
     let rep = classes_of(s);
@@ -422,9 +549,7 @@ fn settle(s: &[u64], need: [u64; 32], floor: [u64; 32]) -> Settled
         if need[v] == 0 {
             v += 1;
         } else {
-            let r = rep[v];
-            let h = class_floor(rep, floor, r);
-            let f = least_class(s, rep, r, h);
+            let f = class_value(s, need, rep, floor, x, v);
             match f {
                 Found::Nothing => {
                     return Settled { ok: false, x };
@@ -441,7 +566,6 @@ fn settle(s: &[u64], need: [u64; 32], floor: [u64; 32]) -> Settled
 
 // The least solution of the conjunction s, null wherever it can be: within 0..=top, non-null where need0 is not 0, and nowhere under floor.
 pub fn solve(s: &[u64], top: [u64; 32], need0: [u64; 32], floor: [u64; 32]) -> Solved
-    requires { ⌜ length (now s) / 11 ≤ 258 ⌝ }
     ensures { λ r. ⌜ Solves (now (s .entry)) top need0 floor r ⌝ }
 {
     let need = needs(s, need0);
@@ -461,7 +585,6 @@ pub fn solve(s: &[u64], top: [u64; 32], need0: [u64; 32], floor: [u64; 32]) -> S
 
 // Is there a row with sessions that meets the conjunction?
 pub fn satisfiable(s: &[u64], top: [u64; 32]) -> bool
-    requires { ⌜ length (now s) / 11 ≤ 258 ⌝ }
     ensures { λ r. ⌜ Answers (now (s .entry)) top r ⌝ }
 {
     let none = [0u64; 32];
@@ -481,7 +604,7 @@ fn tied(s: &[u64], u: usize, w: usize) -> bool
 
 // Can w rise above a, the least value of u, where u holds less?
 fn rises(s: &[u64], top: [u64; 32], u: usize, w: usize, a: u64) -> bool
-    requires { ⌜ (u < 32) × (w < 32) × (length (now s) / 11 ≤ 258) ⌝ }
+    requires { ⌜ (u < 32) × (w < 32) ⌝ }
     ensures { λ r. ⌜ ((low : Solved) → Lowest (now (s .entry)) top u w low → getD (low .x) u 0 ≡ a → Lesser (now (s .entry)) top u w r) ⌝ }
 {
     if 18446744073709551615 <= a {
@@ -506,7 +629,7 @@ fn rises(s: &[u64], top: [u64; 32], u: usize, w: usize, a: u64) -> bool
 
 // Do u and w ever differ, where their least values are a and b?
 fn splits(s: &[u64], top: [u64; 32], u: usize, w: usize, a: u64, b: u64) -> bool
-    requires { ⌜ (u < 32) × (w < 32) × (length (now s) / 11 ≤ 258) ⌝ }
+    requires { ⌜ (u < 32) × (w < 32) ⌝ }
     ensures { λ r. ⌜ ((low : Solved) → Lowest (now (s .entry)) top u w low → getD (low .x) u 0 ≡ a → getD (low .x) w 0 ≡ b → Apart (now (s .entry)) top u w r) ⌝ }
 {
     if a == b {
@@ -526,7 +649,7 @@ fn splits(s: &[u64], top: [u64; 32], u: usize, w: usize, a: u64, b: u64) -> bool
 
 // Is there one in which u holds less than w?
 pub fn less(s: &[u64], top: [u64; 32], u: usize, w: usize) -> bool
-    requires { ⌜ (u < 32) × (w < 32) × (length (now s) / 11 ≤ 258) ⌝ }
+    requires { ⌜ (u < 32) × (w < 32) ⌝ }
     ensures { λ r. ⌜ Lesser (now (s .entry)) top u w r ⌝ }
 {
     let none = [0u64; 32];
@@ -544,7 +667,7 @@ pub fn less(s: &[u64], top: [u64; 32], u: usize, w: usize) -> bool
 
 // Is there one in which u and w hold different values?
 pub fn apart(s: &[u64], top: [u64; 32], u: usize, w: usize) -> bool
-    requires { ⌜ (u < 32) × (w < 32) × (length (now s) / 11 ≤ 258) ⌝ }
+    requires { ⌜ (u < 32) × (w < 32) ⌝ }
     ensures { λ r. ⌜ Apart (now (s .entry)) top u w r ⌝ }
 {
     let none = [0u64; 32];
@@ -562,7 +685,7 @@ pub fn apart(s: &[u64], top: [u64; 32], u: usize, w: usize) -> bool
 
 // Is there one in which u is null and w is not?
 fn beside_null(s: &[u64], top: [u64; 32], u: usize, w: usize) -> bool
-    requires { ⌜ (u < 32) × (w < 32) × (length (now s) / 11 ≤ 258) ⌝ }
+    requires { ⌜ (u < 32) × (w < 32) ⌝ }
     ensures { λ r. ⌜ NullBeside (now (s .entry)) top u w r ⌝ }
 {
     let none = [0u64; 32];
@@ -582,7 +705,7 @@ fn beside_null(s: &[u64], top: [u64; 32], u: usize, w: usize) -> bool
 
 // Is there one in which u and w differ, either of which may be null?
 fn differ_with_null(s: &[u64], top: [u64; 32], u: usize, w: usize) -> bool
-    requires { ⌜ (u < 32) × (w < 32) × (length (now s) / 11 ≤ 258) ⌝ }
+    requires { ⌜ (u < 32) × (w < 32) ⌝ }
     ensures { λ r. ⌜ Parts (now (s .entry)) top u w r ⌝ }
 {
     if beside_null(s, top, u, w) {
@@ -599,7 +722,7 @@ fn differ_with_null(s: &[u64], top: [u64; 32], u: usize, w: usize) -> bool
 
 // Is there one in which u and w differ, null counted as one more value? The least solution often tells by itself.
 pub fn parted(s: &[u64], top: [u64; 32], u: usize, w: usize) -> bool
-    requires { ⌜ (u < 32) × (w < 32) × (length (now s) / 11 ≤ 258) ⌝ }
+    requires { ⌜ (u < 32) × (w < 32) ⌝ }
     ensures { λ r. ⌜ Parts (now (s .entry)) top u w r ⌝ }
 {
     let none = [0u64; 32];

@@ -1,4 +1,3 @@
-use Rattle.asked.proofs.Ways.{few-atoms}
 use Rattle.meaning.specs.Views.{clauseOf}
 use Prim.Native.Nat.{ℕ, _+_, _-_, _*_, _<_, _≤_}
 use mathlib.Core.Path.{_≡_, refl, sym, ap, _∙_}
@@ -30,7 +29,7 @@ slice-aggregate-apart : tie.Need-slice-aggregate-apart
 slice-aggregate-apart c = sym (length-take-le _ _ (search needs))
 
 apart-requires : tie.Need-apart-requires
-apart-requires c κs = (omega arith, omega arith, few-atoms (c .before .before .lay .result * 11) (c .before .before .lay .last .0) (let q = c .before .before .lay .ensures .0 in omega arith))
+apart-requires c κs = (omega arith, omega arith)
 
 returns : tie.Need-returns
 returns c = let a = c .before .before .before .before .before .args in differs-told (c .before .before .before .lay .last .0) _ _ (c .before .before .before .lay .result) (a .u) (a .w) (clauseOf (a .c)) _ refl (search needs) (c .before .before .before .lay .ensures .1) (c .apart .ensures)

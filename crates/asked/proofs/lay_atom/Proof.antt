@@ -5,7 +5,7 @@ use native.Mathlib.Nat.{not-suc-le-zero}
 use borrow.Author.Needs.{needs}
 use lib.ListN.{length, getD, set, length-set}
 use lib.Seq.{getD-set-other}
-use Rattle.reach.proofs.Joined.{grow-new}
+use Rattle.asked.proofs.Laying.{grow-new}
 use Rattle.asked.proofs.Laying.{laid-so}
 use Rattle.asked.proofs.lay_atom.Statement.{statement}
 use Rattle.asked.proofs.lay_atom.Tie as tie

@@ -3,7 +3,6 @@ use Prim.Native.Nat.{_*_}
 use native.Mathlib.Omega.{arith}
 use mathlib.Core.Path.{refl, sym}
 use lib.Seq.{length-take-le}
-use Rattle.asked.proofs.Ways.{few-atoms}
 use Rattle.asked.proofs.Tenants.{leaks-told}
 use borrow.Author.Needs.{needs}
 use Rattle.asked.proofs.leaks.Statement.{statement}
@@ -19,7 +18,7 @@ slice-aggregate-parted : tie.Need-slice-aggregate-parted
 slice-aggregate-parted c = sym (length-take-le _ _ (search needs))
 
 parted-requires : tie.Need-parted-requires
-parted-requires c κs = (omega arith, omega arith, few-atoms (c .before .before .args .n * 11) (c .before .before .args .words .now) (let q = c .before .before .pre .0 in omega arith))
+parted-requires c κs = (omega arith, omega arith)
 
 returns : tie.Need-returns
 returns c = leaks-told (c .before .before .before .args .words .now) _ (c .before .before .before .args .n) _ _ refl (search needs) (c .parted .ensures)

@@ -3,7 +3,6 @@ use Prim.Native.Nat.{_*_}
 use native.Mathlib.Omega.{arith}
 use mathlib.Core.Path.{refl, sym}
 use lib.Seq.{length-take-le}
-use Rattle.asked.proofs.Ways.{few-atoms}
 use Rattle.asked.proofs.Tenants.{meets-told}
 use borrow.Author.Needs.{needs}
 use Rattle.asked.proofs.meets.Statement.{statement}
@@ -19,7 +18,7 @@ slice-aggregate-satisfiable : tie.Need-slice-aggregate-satisfiable
 slice-aggregate-satisfiable c = sym (length-take-le _ _ (search needs))
 
 satisfiable-requires : tie.Need-satisfiable-requires
-satisfiable-requires c κs = few-atoms (c .before .before .args .n * 11) (c .before .before .args .words .now) (let q = c .before .before .pre .0 in omega arith)
+satisfiable-requires c κs = search needs
 
 returns : tie.Need-returns
 returns c = meets-told (c .before .before .before .args .words .now) _ (c .before .before .before .args .n) _ _ refl (search needs) (c .satisfiable .ensures)

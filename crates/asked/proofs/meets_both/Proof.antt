@@ -1,4 +1,3 @@
-use Rattle.asked.proofs.Ways.{few-atoms}
 use mathlib.Core.List.{List, [], _∷_, _++_}
 use Rattle.meaning.specs.Views.{clauseOf, atomOf}
 use Prim.Native.Nat.{ℕ, _+_, _-_, _*_, _<_, _≤_}
@@ -41,7 +40,7 @@ slice-aggregate-satisfiable : tie.Need-slice-aggregate-satisfiable
 slice-aggregate-satisfiable c = sym (length-take-le _ _ (search needs))
 
 satisfiable-requires : tie.Need-satisfiable-requires
-satisfiable-requires c κs = few-atoms (c .before .before .before .before .before .lay .result * 11 + 11) (c .before .before .lay-atom .last .0) (let q = c .before .before .before .before .before .lay .ensures .0 in omega arith)
+satisfiable-requires c κs = search needs
 
 returns : tie.Need-returns
 returns c =

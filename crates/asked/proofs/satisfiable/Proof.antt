@@ -1,4 +1,3 @@
-use Rattle.asked.proofs.Ways.{few-atoms}
 use Rattle.meaning.specs.Views.{clauseOf}
 use Prim.Native.Nat.{ℕ, _+_, _-_, _*_, _<_, _≤_}
 use mathlib.Core.Path.{_≡_, refl, sym, ap, _∙_}
@@ -30,7 +29,7 @@ slice-aggregate-satisfiable : tie.Need-slice-aggregate-satisfiable
 slice-aggregate-satisfiable c = sym (length-take-le _ _ (search needs))
 
 satisfiable-requires : tie.Need-satisfiable-requires
-satisfiable-requires c κs = few-atoms (c .before .before .lay .result * 11) (c .before .before .lay .last .0) (let q = c .before .before .lay .ensures .0 in omega arith)
+satisfiable-requires c κs = search needs
 
 returns : tie.Need-returns
 returns c = live-told (c .before .before .before .lay .last .0) _ _ (c .before .before .before .lay .result) (clauseOf (c .before .before .before .before .before .args .c)) _ refl (search needs) (c .before .before .before .lay .ensures .1) (c .satisfiable .ensures)

@@ -5,7 +5,7 @@ use native.Mathlib.Omega.{arith}
 use native.Mathlib.Nat.{not-suc-le-zero}
 use mathlib.Core.Path.{_≡_, _∙_, ap}
 use lib.ListN.{length, getD, length-set, length-replicate}
-use Rattle.reach.proofs.Joined.{fill-step}
+use Rattle.reach.proofs.ClassLaws.{fill-step}
 use Rattle.asked.specs.Asked.{lastOf, kindPlace}
 use Rattle.asked.proofs.RangeLaws.{ranges}
 use Rattle.asked.proofs.tops.Statement.{statement}

@@ -1,6 +1,6 @@
 -- From the least solution with neither null, they split or do not.
 use mathlib.Core.Path.{refl}
-use Rattle.reach.proofs.Split.{apart-none}
+use Rattle.reach.proofs.SplitLaws.{apart-none}
 use borrow.Author.Needs.{needs}
 use Rattle.reach.proofs.apart.Statement.{statement}
 use Rattle.reach.proofs.apart.Tie as tie

@@ -1,5 +1,5 @@
 -- The least solution with w not null has u null wherever any has.
-use Rattle.reach.proofs.Split.{beside-yes, beside-no, beside-none}
+use Rattle.reach.proofs.SplitLaws.{beside-yes, beside-no, beside-none}
 use borrow.Author.Needs.{needs}
 use Rattle.reach.proofs.beside_null.Statement.{statement}
 use Rattle.reach.proofs.beside_null.Tie as tie

@@ -4,7 +4,7 @@ use native.Mathlib.Omega.{arith}
 use mathlib.Core.Path.{_≡_}
 use lib.ListN.{length, length-set}
 use Rattle.reach.specs.Classes.{Highest}
-use Rattle.reach.proofs.Chosen.{highest-none, highest-skip, highest-add, highest-done}
+use Rattle.reach.proofs.ChoiceLaws.{highest-none, highest-skip, highest-add, highest-done}
 use Rattle.reach.proofs.class_floor.Statement.{statement}
 use Rattle.reach.proofs.class_floor.Tie as tie
 use Rattle.reach.proofs.class_floor.Reads as reads

@@ -1,5 +1,5 @@
 -- Two contents differ where one is null and the other is not, or where they are different values.
-use Rattle.reach.proofs.Split.{parts-beside, parts-back, parts-apart, parts-no}
+use Rattle.reach.proofs.SplitLaws.{parts-beside, parts-back, parts-apart, parts-no}
 use borrow.Author.Needs.{needs}
 use Rattle.reach.proofs.differ_with_null.Statement.{statement}
 use Rattle.reach.proofs.differ_with_null.Tie as tie

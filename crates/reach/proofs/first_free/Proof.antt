@@ -1,57 +1,51 @@
-use Prim.Native.Nat.{ℕ, _+_, _-_, _*_, _<_, _≤_}
-use mathlib.Core.Path.{_≡_, refl, sym, ap, _∙_, subst}
-use native.Mathlib.Omega.{arith}
-use native.Mathlib.Nat.{not-suc-le-zero}
+-- No value of the class lies below x.
 use borrow.Author.Needs.{needs}
-use lib.ListN.{length, getD}
-use Rattle.reach.proofs.Marked.{all-marked, free-found, free-high, free-never}
+use Prim.Native.Nat.{ℕ, _+_, _-_, _≤_}
+use native.Mathlib.Omega.{arith}
+use Rattle.reach.specs.Classes.{Allowed}
+use Rattle.reach.proofs.MarkLaws.{free-past, free-found, free-none}
 use Rattle.reach.proofs.first_free.Statement.{statement}
 use Rattle.reach.proofs.first_free.Tie as tie
 use Rattle.reach.proofs.first_free.Reads as reads
 use Rattle.reach.proofs.first_free.Lts as lts
-use Rattle.reach.proofs.mark.Reads as mark-reads
+use Rattle.reach.proofs.gap.Reads as gap-reads
+use Rattle.reach.proofs.gather.Reads as gather-reads
 
 abbrev Inv-loop : tie.InvT-loop
-Inv-loop vals n x marks j₀ j = (j ≤ 2065) × ((i : ℕ) → i < j → getD marks i 0 ≡ 0 → ⊥)
+Inv-loop s rep r low high x₀ x = (low ≤ x) × ((n : ℕ) → low ≤ n → Allowed s rep r n → x ≤ n)
 
 abbrev μ-loop : tie.MeasureT-loop
-μ-loop vals n x marks j₀ j = 2065 - j
-
-mark-requires : tie.Need-mark-requires Inv-loop μ-loop
-mark-requires c κs = search needs
+μ-loop s rep r low high x₀ x = high + 1 - x
 
 loop-holds : tie.Need-loop-holds Inv-loop μ-loop
-loop-holds c = (omega arith, λ i l. absurd (not-suc-le-zero l))
+loop-holds c = (omega arith, λ n l a. l)
 
-mul-if1 : tie.Need-mul-if1 Inv-loop μ-loop
-mul-if1 c = omega arith
+gather-requires : tie.Need-gather-requires Inv-loop μ-loop
+gather-requires c κs = search needs
 
-array-read-if1 : tie.Need-array-read-if1 Inv-loop μ-loop
-array-read-if1 c = omega arith
-
-sub-if2 : tie.Need-sub-if2 Inv-loop μ-loop
-sub-if2 c = omega arith
+gap-requires : tie.Need-gap-requires Inv-loop μ-loop
+gap-requires c κs = search needs
 
 returns : tie.Need-returns Inv-loop μ-loop
-returns c = free-high _ (c .before .before .before .before .mark .result) _ _ (c .before .before .before .loop .j) (c .before .before .before .before .mark .ensures) (c .before .before .before .loop .inv .1) (c .if2 .taken)
+returns c = free-none _ _ _ _ _ _ _ _ (c .before .before .before .before .before .loop .inv .0) (c .before .before .before .before .before .loop .inv .1) (c .before .before .before .gather .ensures) (c .before .gap .ensures .0) (c .if1 .taken) (c .before .before .before .before .loop-test .taken)
 
-add-t13 : tie.Need-add-t13 Inv-loop μ-loop
-add-t13 c = omega arith
+add-t14 : tie.Need-add-t14 Inv-loop μ-loop
+add-t14 c = omega arith
 
 returns-2 : tie.Need-returns-2 Inv-loop μ-loop
-returns-2 c = free-found _ (c .before .before .before .before .mark .result) _ _ (c .before .before .before .loop .j) (c .before .before .before .before .mark .ensures) (c .before .before .before .loop .inv .1) (omega arith) (c .before .if1 .taken)
+returns-2 c = free-found _ _ _ _ _ _ _ _ (c .before .before .before .before .before .before .loop .inv .0) (c .before .before .before .before .before .before .loop .inv .1) (c .before .before .before .before .gather .ensures) (c .before .before .gap .ensures .0) (c .if2 .taken) (omega arith)
 
-add-j : tie.Need-add-j Inv-loop μ-loop
-add-j c = omega arith
+add-x : tie.Need-add-x Inv-loop μ-loop
+add-x c = omega arith
 
 loop-less : tie.Need-loop-less Inv-loop μ-loop
 loop-less c = omega arith
 
 loop-again : tie.Need-loop-again Inv-loop μ-loop
-loop-again c = let l = c .before .before .loop in (omega arith, all-marked (c .before .before .before .mark .result) (l .j) (c .if1 .left) (l .inv .1))
+loop-again c = (omega arith, free-past _ _ _ _ (c .before .before .before .before .before .before .before .before .args .high) _ _ _ (c .before .before .before .before .before .before .loop .inv .0) (c .before .before .before .before .before .before .loop .inv .1) (c .before .before .before .before .gather .ensures) (c .before .before .gap .ensures .0))
 
 returns-3 : tie.Need-returns-3 Inv-loop μ-loop
-returns-3 c = let len : length (c .before .before .mark .result) ≡ 2065 = search needs in free-never _ (c .before .before .mark .result) _ _ (c .before .loop .j) (c .before .before .mark .ensures) (c .before .loop .inv .1) (omega arith) (omega arith)
+returns-3 c = λ n ln lh a. let w = c .before .loop .inv .1 n ln a in let d = c .loop-test .left in omega arith
 
 pub first-free-spec : {M : Type 1} → statement M
 first-free-spec =
@@ -59,15 +53,13 @@ first-free-spec =
     (tie.spec
     Inv-loop
     μ-loop
-    mark-requires
     loop-holds
-    mul-if1
-    array-read-if1
-    sub-if2
+    gather-requires
+    gap-requires
     returns
-    add-t13
+    add-t14
     returns-2
-    add-j
+    add-x
     loop-less
     loop-again
     returns-3)

@@ -4,7 +4,7 @@ use native.Mathlib.Omega.{arith}
 use native.Mathlib.Nat.{not-suc-le-zero}
 use mathlib.Core.Path.{_≡_, refl, sym, _∙_}
 use lib.ListN.{length, getD, length-set, length-replicate}
-use Rattle.reach.proofs.Joined.{renamed-at, renamed-off}
+use Rattle.reach.proofs.ClassLaws.{renamed-at, renamed-off}
 use Rattle.reach.proofs.label.Statement.{statement}
 use Rattle.reach.proofs.label.Tie as tie
 use Rattle.reach.proofs.label.Reads as reads

@@ -3,7 +3,7 @@ use mathlib.Core.Path.{refl}
 use lib.ListN.{getD}
 use mir.Val.{Fits}
 use mir.Syntax.{w64}
-use Rattle.reach.proofs.Split.{lesser-none}
+use Rattle.reach.proofs.SplitLaws.{lesser-none}
 use borrow.Author.Needs.{needs}
 use Rattle.reach.proofs.less.Statement.{statement}
 use Rattle.reach.proofs.less.Tie as tie

@@ -4,7 +4,7 @@ use borrow.Author.Needs.{needs}
 use mathlib.Core.Path.{_≡_, refl, sym, _∙_}
 use lib.ListN.{length, length-set}
 use Rattle.reach.specs.Search.{Needs}
-use Rattle.reach.proofs.Core.{needs-none, needs-skip, needs-add, needs-done}
+use Rattle.reach.proofs.NeedLaws.{needs-none, needs-skip, needs-add, needs-done}
 use Rattle.reach.proofs.needs.Statement.{statement}
 use Rattle.reach.proofs.needs.Tie as tie
 use Rattle.reach.proofs.needs.Reads as reads

@@ -1,6 +1,6 @@
 -- The least solution tells where it has just one of the two null, or where no solution has either null.
 use mathlib.Core.Path.{refl}
-use Rattle.reach.proofs.Split.{parts-back, parts-apart, parts-none, parts-left, parts-neither, lowest-of}
+use Rattle.reach.proofs.SplitLaws.{parts-back, parts-apart, parts-none, parts-left, parts-neither, lowest-of}
 use borrow.Author.Needs.{needs}
 use Rattle.reach.proofs.parted.Statement.{statement}
 use Rattle.reach.proofs.parted.Tie as tie

@@ -2,7 +2,7 @@
 use lib.ListN.{getD}
 use mir.Val.{Fits}
 use mir.Syntax.{w64}
-use Rattle.reach.proofs.Split.{rises-max, rises-yes, rises-no, rises-stuck}
+use Rattle.reach.proofs.SplitLaws.{rises-max, rises-yes, rises-no, rises-stuck}
 use borrow.Author.Needs.{needs}
 use Rattle.reach.proofs.rises.Statement.{statement}
 use Rattle.reach.proofs.rises.Tie as tie

@@ -1,5 +1,5 @@
 use borrow.Author.Needs.{needs}
-use Rattle.reach.proofs.Whole.{answers-yes, answers-no}
+use Rattle.reach.proofs.SolveLaws.{answers-yes, answers-no}
 use Rattle.reach.proofs.satisfiable.Statement.{statement}
 use Rattle.reach.proofs.satisfiable.Tie as tie
 use Rattle.reach.proofs.satisfiable.Reads as reads

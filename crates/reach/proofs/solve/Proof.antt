@@ -2,7 +2,7 @@ use borrow.Author.Needs.{needs}
 use lib.ListN.{getD}
 use mir.Val.{Fits}
 use mir.Syntax.{w64}
-use Rattle.reach.proofs.Whole.{solves-yes, solves-stuck, solves-out}
+use Rattle.reach.proofs.SolveLaws.{solves-yes, solves-stuck, solves-out}
 use Rattle.reach.proofs.solve.Statement.{statement}
 use Rattle.reach.proofs.solve.Tie as tie
 use Rattle.reach.proofs.solve.Reads as reads

@@ -1,6 +1,6 @@
 -- Least values that differ tell by themselves. Equal ones differ elsewhere exactly where one of the two rises while the other stays.
 use mathlib.Core.Path.{refl, sym, _∙_}
-use Rattle.reach.proofs.Split.{splits-yes, splits-tied, apart-yes, apart-back, apart-no, lowest-back}
+use Rattle.reach.proofs.SplitLaws.{splits-yes, splits-tied, apart-yes, apart-back, apart-no, lowest-back}
 use borrow.Author.Needs.{needs}
 use Rattle.reach.proofs.splits.Statement.{statement}
 use Rattle.reach.proofs.splits.Tie as tie

@@ -1,6 +1,6 @@
 -- `engine::wanting` meets its contract.
 use borrow.Author.Needs.{needs}
-use Rattle.reach.proofs.Laws.{wanting-law}
+use Rattle.reach.proofs.TestLaws.{wanting-law}
 use Rattle.reach.proofs.wanting.Statement.{statement}
 use Rattle.reach.proofs.wanting.Tie as tie
 

@@ -13,8 +13,8 @@ use borrow.Author.Tests.{lt-ltb, le-ltb, ltb-true, ltb-false}
 use Rattle.reach.specs.Meaning.{Content, Content.null, Content.value, Sat, Ordered, Differ, passes, varAt, testAt, atoms}
 use Rattle.reach.specs.Search.{pickC, contents, Asks, Solves, Lesser, Apart, Lowest, Tied, NullBeside, Parts}
 use Rattle.reach.specs.declared.Solved.{Solved}
-use Rattle.reach.proofs.Core.{clash, has-value, mark-all, mark-old, mark-new}
-use Rattle.reach.proofs.Whole.{met-Met, Met-met, null-there, value-there, value-is, zero-at, zeros, asks-nothing}
+use Rattle.reach.proofs.NeedLaws.{clash, has-value, mark-all, mark-old, mark-new}
+use Rattle.reach.proofs.SolveLaws.{met-Met, Met-met, null-there, value-there, value-is, zero-at, zeros, asks-nothing}
 
 -- The cut: above a threshold k the contents c, and elsewhere d. It is how two solutions make a third.
 pickW : Content → Content → ℕ → Content

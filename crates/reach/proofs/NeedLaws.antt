@@ -117,10 +117,3 @@ set-under x v m n w lt h l = go (ℕ-discrete w v)
 
 pub needs-done : (s need0 need : List ℕ) (i k : ℕ) → i ≡ k → Needs s i need0 need → Needs s k need0 need
 needs-done s need0 need i k e h = subst (λ (j : ℕ). Needs s j need0 need) e h
-
--- a search that starts over where it has risen still falls
-pub falls-back : (r r' n i : ℕ) → r' < r → r' * (n + 1) + (n - 0) < r * (n + 1) + (n - i)
-falls-back r r' n i l =
-    let a : suc r' * (n + 1) ≤ r * (n + 1) = mul-le-mul-right (n + 1) l in
-    let b : suc r' * (n + 1) ≡ r' * (n + 1) + (n + 1) = suc-mul r' (n + 1) in
-    omega arith

@@ -11,12 +11,12 @@ use lib.Seq.{getD-set-same, getD-set-other}
 use borrow.Author.Count.{below-more}
 use Rattle.reach.specs.Meaning.{Content, Content.value, allows, wants, varAt, testAt, atoms}
 use Rattle.reach.specs.Search.{Larger, mateAt, Model, Needs, Settles}
-use Rattle.reach.specs.Classes.{Classes, Allowed, LeastOf, Highest, Closed}
+use Rattle.reach.specs.Classes.{Classes, Allowed, LeastOf, Highest, Closed, Chosen, ChosenOr}
 use Rattle.reach.specs.declared.Found.{Found}
 use Rattle.reach.specs.declared.Found.the-variants.{At, Nothing}
-use Rattle.reach.proofs.Core.{clash, has-value, allows-at, set-le, set-under}
-use Rattle.reach.proofs.Whole.{own-mate}
-use Rattle.reach.proofs.Joined.{mate-below}
+use Rattle.reach.proofs.NeedLaws.{clash, has-value, allows-at, set-le, set-under}
+use Rattle.reach.proofs.SolveLaws.{own-mate}
+use Rattle.reach.proofs.ClassLaws.{mate-below}
 
 -- the highest floor of a class
 
@@ -37,11 +37,16 @@ highest-add rep floor r k h j lk e l g =
 pub highest-done : (rep floor : List ℕ) (r k h : ℕ) → k ≡ 32 → Highest rep floor r k h → Highest rep floor r 32 h
 highest-done rep floor r k h e g = subst (λ (j : ℕ). Highest rep floor r j h) e g
 
--- x is the least value of the class of v
-pub record Chosen (s rep floor : List ℕ) (v x : ℕ) : Type 0 where
-  pub high : (w : ℕ) → w < 32 → getD rep w 0 ≡ getD rep v 0 → getD floor w 0 ≤ x
-  pub allowed : Allowed s rep (getD rep v 0) x
-  pub least : (n : ℕ) → ((w : ℕ) → w < 32 → getD rep w 0 ≡ getD rep v 0 → getD floor w 0 ≤ n) → Allowed s rep (getD rep v 0) n → x ≤ n
+-- the least value of a class at or above its highest floor
+pub chosen-found : (s rep floor : List ℕ) (v h : ℕ) (f : Found) → Highest rep floor (getD rep v 0) 32 h → LeastOf s rep (getD rep v 0) h f → ChosenOr s rep floor v f
+chosen-found s rep floor v h (At m) hi a =
+    record { high = λ w lw e. (let c = hi .over w lw e in let d = a .0 in omega arith); allowed = a .1; least = λ n f al. a .2 n (hi .least n f) al }
+chosen-found s rep floor v h Nothing hi a = λ n w f al. a n w (hi .least n f) al
+
+-- what is chosen for u is chosen for v, where they have one label
+pub chosen-same : (s rep floor : List ℕ) (u v x : ℕ) → getD rep u 0 ≡ getD rep v 0 → Chosen s rep floor u x → Chosen s rep floor v x
+chosen-same s rep floor u v x e c =
+    record { high = λ w l q. c .high w l (q ∙ sym e); allowed = λ i l q. c .allowed i l (q ∙ sym e); least = λ n f a. c .least n (λ w l q. f w l (q ∙ e)) (λ i l q. a i l (q ∙ e)) }
 
 under : (s rep floor : List ℕ) (v p x y : ℕ) → getD rep v 0 ≡ getD rep p 0 → Chosen s rep floor v x → Chosen s rep floor p y → x ≤ y
 under s rep floor v p x y e a b = a .least y (λ w l q. b .high w l (q ∙ e)) (λ i l q. b .allowed i l (q ∙ e))
@@ -83,32 +88,29 @@ module _ (s need rep floor : List ℕ) (cl : Classes s (atoms s) rep) where
           least = g .least;
         }
 
-    module _ (h : ℕ) (hi : Highest rep floor (getD rep v 0) 32 h) where
-      pub choosing-stuck : (getD need v 0 ≡ 0 → ⊥) → {f : Found} → f ≡ Nothing → LeastOf s rep (getD rep v 0) h f → (e : ℕ → Content) → Model s need floor e → ⊥
-      choosing-stuck ne q l e m =
-          let a : LeastOf s rep (getD rep v 0) h Nothing = subst (λ (f : Found). LeastOf s rep (getD rep v 0) h f) q l in
-          let b = has-value (e v) (m .needed v lv ne) in
-          a (b .0) (m .bounded v (b .0) lv (b .1)) (hi .least (b .0) (floors e m v (b .0) lv (b .1))) (fair e m v (b .0) lv (b .1))
+    pub choosing-stuck : (getD need v 0 ≡ 0 → ⊥) → {f : Found} → f ≡ Nothing → ChosenOr s rep floor v f → (e : ℕ → Content) → Model s need floor e → ⊥
+    choosing-stuck ne q l e m =
+        let a : ChosenOr s rep floor v Nothing = subst (λ (f : Found). ChosenOr s rep floor v f) q l in
+        let b = has-value (e v) (m .needed v lv ne) in
+        a (b .0) (m .bounded v (b .0) lv (b .1)) (floors e m v (b .0) lv (b .1)) (fair e m v (b .0) lv (b .1))
 
-      pub choosing-add : {m : ℕ} {f : Found} → f ≡ At m → LeastOf s rep (getD rep v 0) h f → Choosing s need rep floor (set x v m) (v + 1)
-      choosing-add {m} q l =
-          let a : LeastOf s rep (getD rep v 0) h (At m) = subst (λ (f : Found). LeastOf s rep (getD rep v 0) h f) q l in
-          let kv : v < length x = omega arith in
-          let up : getD x v 0 ≤ m = (let b = g .rest v (omega arith) in let c = hi .over v lv refl in let d = a .0 in omega arith) in
-          let ch : Chosen s rep floor v m =
-          record { high = λ w lw e. (let c = hi .over w lw e in let d = a .0 in omega arith); allowed = a .1; least = λ n f al. a .2 n (hi .least n f) al } in
-          record {
-            chosen =
-                below-more (λ w. (getD need w 0 ≡ 0 → ⊥) → Chosen s rep floor w (getD (set x v m) w 0)) v
-                (λ w lw ne. subst (λ (y : ℕ). Chosen s rep floor w y) (sym (getD-set-other x v w m 0 (omega arith))) (g .chosen w lw ne))
-                (λ ne. subst (λ (y : ℕ). Chosen s rep floor v y) (sym (getD-set-same x v m 0 kv)) ch);
-            rises = λ w. (let c = g .rises w in let d = set-le x v m w up kv in omega arith);
-            rest = λ w lw. getD-set-other x v w m 0 (omega arith) ∙ g .rest w (omega arith);
-            least = λ e mo w n lw ew.
-                set-under x v m n w kv
-                (λ d. let ev : e v ≡ value n = ap e (sym d) ∙ ew in ch .least n (floors e mo v n lv ev) (fair e mo v n lv ev))
-                (g .least e mo w n lw ew);
-          }
+    pub choosing-add : {m : ℕ} {f : Found} → f ≡ At m → ChosenOr s rep floor v f → Choosing s need rep floor (set x v m) (v + 1)
+    choosing-add {m} q l =
+        let ch : Chosen s rep floor v m = subst (λ (f : Found). ChosenOr s rep floor v f) q l in
+        let kv : v < length x = omega arith in
+        let up : getD x v 0 ≤ m = (let b = g .rest v (omega arith) in let c = ch .high v lv refl in omega arith) in
+        record {
+          chosen =
+              below-more (λ w. (getD need w 0 ≡ 0 → ⊥) → Chosen s rep floor w (getD (set x v m) w 0)) v
+              (λ w lw ne. subst (λ (y : ℕ). Chosen s rep floor w y) (sym (getD-set-other x v w m 0 (omega arith))) (g .chosen w lw ne))
+              (λ ne. subst (λ (y : ℕ). Chosen s rep floor v y) (sym (getD-set-same x v m 0 kv)) ch);
+          rises = λ w. (let c = g .rises w in let d = set-le x v m w up kv in omega arith);
+          rest = λ w lw. getD-set-other x v w m 0 (omega arith) ∙ g .rest w (omega arith);
+          least = λ e mo w n lw ew.
+              set-under x v m n w kv
+              (λ d. let ev : e v ≡ value n = ap e (sym d) ∙ ew in ch .least n (floors e mo v n lv ev) (fair e mo v n lv ev))
+              (g .least e mo w n lw ew);
+        }
 
   pub choices-no : (x : List ℕ) (v : ℕ) → Choosing s need rep floor x v → ((e : ℕ → Content) → Model s need floor e → ⊥) → Settles s need floor (record { ok = false; x = x })
   choices-no x v g f = record { yes = λ q. absurd (clash q refl); rises = g .rises; least = g .least; none = λ q. f }

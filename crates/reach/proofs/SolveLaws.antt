@@ -13,7 +13,7 @@ use Rattle.reach.specs.Meaning.{Test, Content, Atom, Sat, Test.oneOf, Te
 use Rattle.reach.specs.Search.{pickN, mateAt, Met, Model, Needs, Settles, Within, pickC, contents, Asks, Solves, Answers}
 use Rattle.reach.specs.declared.Settled.{Settled}
 use Rattle.reach.specs.declared.Solved.{Solved}
-use Rattle.reach.proofs.Core.{clash, has-value}
+use Rattle.reach.proofs.NeedLaws.{clash, has-value}
 
 -- the atom's two forms mean the same
 
