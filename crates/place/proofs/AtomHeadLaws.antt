@@ -90,7 +90,7 @@ module _ (facts : Sheet) (s : List ℕ) where
 abbrev pub atomOn : ℕ → Operator → Atom
 atomOn v x = record { variable = v; operator = x }
 
-abbrev headOn : ℕ → ℕ → Head
+abbrev pub headOn : ℕ → ℕ → Head
 headOn v o = record { variable = v; operator = o }
 
 -- an atom is its head and what follows it
@@ -117,3 +117,72 @@ atom-by-head facts s p = from (variable facts s p)
         ≡ onRead (onRead m (λ v q. onRead (reading.field 4 s q) (λ o q. onRead (need (ltb o 9) 5 s q) (λ x q. onRead (need (fitsKind (kindNumber (kindOf facts v)) o) 7 s q) (λ x q. found (headOn v o) q))))) (λ h q. rest (h .variable) (h .operator) q)
     from (found v q) = second v (reading.field 4 s q)
     from (refused n) = refl
+
+-- what an answer tells of the definitions' head: where it was found, or the same refusal
+pub atom-found : {X : Type 0} {r : AtomHead} {v o : ℕ} {q : Place} (m : Read Head) → r ≡ atomHeadOf m → r ≡ head.Head v o q
+    → ((p : ℕ) → m ≡ found (headOn v o) p → q ≡ placeAt p → X) → X
+unfolding atomHeadOf
+atom-found {v = v} {o} {q} (found h p) e g next =
+    let same : head.Head (h .variable) (h .operator) (placeAt p) ≡ head.Head v o q = sym e ∙ g in
+    let a : h .variable ≡ v = cc in
+    let b : h .operator ≡ o = cc in
+    let c : q ≡ placeAt p = cc in
+    next p (λ i. found (headOn (a i) (b i)) p) c
+atom-found {v = v} {o} {q} (refused n) e g next =
+    let same : head.Refused n ≡ head.Head v o q = sym e ∙ g in
+    let z : _≡_ {A = ℕ} 0 1 = cc in absurd (omega arith)
+
+pub atom-refused : {r : AtomHead} {n : ℕ} (m : Read Head) → r ≡ atomHeadOf m → r ≡ head.Refused n → m ≡ refused n
+unfolding atomHeadOf
+atom-refused {n = n} (found h p) e g =
+    let same : head.Head (h .variable) (h .operator) (placeAt p) ≡ head.Refused n = sym e ∙ g in
+    let z : _≡_ {A = ℕ} 0 1 = cc in absurd (omega arith)
+atom-refused {n = n} (refused k) e g =
+    let same : head.Refused k ≡ head.Refused n = sym e ∙ g in
+    let a : k ≡ n = cc in ap refused a
+
+-- what it tells of the whole atom
+module _ (facts : Sheet) (s : List ℕ) (p : ℕ) where
+  pub atom-lost : {n : ℕ} → atomHead facts s p ≡ refused n → atom facts s p ≡ refused n
+  atom-lost e = atom-by-head facts s p ∙ rw e
+
+  pub atom-goes-on : {v o q : ℕ} → atomHead facts s p ≡ found (headOn v o) q → atom facts s p ≡ onRead (operand facts v o s q) (λ x r. found (atomOn v x) r)
+  atom-goes-on e = atom-by-head facts s p ∙ rw e
+
+-- a variable below 24, and an operator below 9
+pub head-small : (facts : Sheet) (s : List ℕ) (p v o q : ℕ) → atomHead facts s p ≡ found (headOn v o) q → (v < 24) × (o < 9)
+unfolding atomHead variable
+head-small facts s p v o q e = from (reading.field 5 s p) e
+  where
+    no-read : {X : Type 0} {n : ℕ} → refused n ≡ found (headOn v o) q → X
+    no-read {n = n} g = let z : _≡_ {A = ℕ} 0 1 = cc in absurd (omega arith)
+
+    last : (u w r : ℕ) → u < 24 → w < 9 → (b : Bool) → onRead (need b 7 s r) (λ x r. found (headOn u w) r) ≡ found (headOn v o) q → (v < 24) × (o < 9)
+    last u w r h k true g =
+        let same : headOn u w ≡ headOn v o = cc in
+        let a : u ≡ v = ap (λ (z : Head). z .variable) same in
+        let b : w ≡ o = ap (λ (z : Head). z .operator) same in
+        (omega arith, omega arith)
+    last u w r h k false g = no-read g
+
+    second : (u w r : ℕ) → u < 24 → (b : Bool) → ltb w 9 ≡ b
+        → onRead (need b 5 s r) (λ x r. onRead (need (fitsKind (kindNumber (kindOf facts u)) w) 7 s r) (λ x r. found (headOn u w) r)) ≡ found (headOn v o) q → (v < 24) × (o < 9)
+    second u w r h true k g = last u w r h (ltb-true w 9 k) (fitsKind (kindNumber (kindOf facts u)) w) g
+    second u w r h false k g = no-read g
+
+    first : (u : ℕ) → u < 24 → (m : Read ℕ) → onRead m (judges facts s u) ≡ found (headOn v o) q → (v < 24) × (o < 9)
+    first u h (found w r) g = second u w r h (ltb w 9) refl g
+    first u h (refused n) g = no-read g
+
+    there : (u r : ℕ) → u < 24 → (b : Bool) → onRead (onRead (need b 6 s r) (λ x r. found u r)) (goes facts s) ≡ found (headOn v o) q → (v < 24) × (o < 9)
+    there u r h true g = first u h (reading.field 4 s r) g
+    there u r h false g = no-read g
+
+    below : (u r : ℕ) (b : Bool) → ltb u 24 ≡ b
+        → onRead (onRead (need b 5 s r) (λ x r. onRead (need (isThere u (length (facts .columns)) (length (facts .keys))) 6 s r) (λ x r. found u r))) (goes facts s) ≡ found (headOn v o) q → (v < 24) × (o < 9)
+    below u r true h g = there u r (ltb-true u 24 h) (isThere u (length (facts .columns)) (length (facts .keys))) g
+    below u r false h g = no-read g
+
+    from : (m : Read ℕ) → onRead (onRead m (named facts s)) (goes facts s) ≡ found (headOn v o) q → (v < 24) × (o < 9)
+    from (found u r) g = below u r (ltb u 24) refl g
+    from (refused n) g = no-read g

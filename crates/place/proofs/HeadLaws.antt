@@ -5,7 +5,7 @@ use mathlib.Core.Path.{_≡_, refl, sym, ap, _∙_}
 use mathlib.Core.Bool.{Bool, true, false, _&&_}
 use mathlib.Core.List.{List}
 use lib.Dec.{ltb, leb, eqb}
-use borrow.Author.Tests.{ltb-true, ltb-false, le-leb, lt-leb}
+use borrow.Author.Tests.{leb-true, ltb-true, ltb-false, le-leb, lt-leb}
 use Rattle.bits.specs.Fields.{placeAt, pick, fieldAt, onField}
 use Rattle.bits.specs.declared.Place.{Place}
 use Rattle.bits.specs.declared.Field.{Field}
@@ -123,3 +123,80 @@ module _ (s : List ℕ) (p : Place) (i : ℕ) {w : ℕ} {f : Field} (width : w �
       pub count-in : n ≤ m → field.Value n q ≡ countAt s p i
       unfolding countAt
       count-in h = on-value (fieldAt s p (widthOf i)) _ _ this e (unless-lt n (lowOf i) _ _ (omega arith) (unless-lt (highOf i) n _ _ (omega arith) refl))
+
+abbrev pub countsOn : ℕ → ℕ → ℕ → ℕ → Counts
+countsOn c k t p = record { columns = c; keys = k; tables = t; policies = p }
+
+-- what an answer tells of the definitions' counts: where they were found, or the same refusal
+pub counts-found : {X : Type 0} {r : SheetHead} {c k t n : ℕ} {q : Place} (m : Read Counts) → r ≡ sheetHeadOf m → r ≡ sheet.Counts c k t n q
+    → ((p : ℕ) → m ≡ found (countsOn c k t n) p → q ≡ placeAt p → X) → X
+unfolding sheetHeadOf
+counts-found {c = c} {k} {t} {n} {q} (found h p) e g next =
+    let same : sheet.Counts (h .columns) (h .keys) (h .tables) (h .policies) (placeAt p) ≡ sheet.Counts c k t n q = sym e ∙ g in
+    let a : h .columns ≡ c = cc in
+    let b : h .keys ≡ k = cc in
+    let d : h .tables ≡ t = cc in
+    let f : h .policies ≡ n = cc in
+    let o : q ≡ placeAt p = cc in
+    next p (λ i. found (countsOn (a i) (b i) (d i) (f i)) p) o
+counts-found {c = c} {k} {t} {n} {q} (refused m) e g next =
+    let same : sheet.Refused m ≡ sheet.Counts c k t n q = sym e ∙ g in
+    let z : _≡_ {A = ℕ} 0 1 = cc in absurd (omega arith)
+
+pub counts-refused : {r : SheetHead} {n : ℕ} (m : Read Counts) → r ≡ sheetHeadOf m → r ≡ sheet.Refused n → m ≡ refused n
+unfolding sheetHeadOf
+counts-refused {n = n} (found h p) e g =
+    let same : sheet.Counts (h .columns) (h .keys) (h .tables) (h .policies) (placeAt p) ≡ sheet.Refused n = sym e ∙ g in
+    let z : _≡_ {A = ℕ} 0 1 = cc in absurd (omega arith)
+counts-refused {n = n} (refused m) e g =
+    let same : sheet.Refused m ≡ sheet.Refused n = sym e ∙ g in
+    let a : m ≡ n = cc in ap refused a
+
+-- a count that is found is allowed
+found-count : (w low high : ℕ) (s : List ℕ) (p : ℕ) {B : Type 0} (k : ℕ → ℕ → Read B) (b : B) (q : ℕ) {X : Type 0}
+    → ((n r : ℕ) → n ≤ high → k n r ≡ found b q → X) → onRead (count w low high s p) k ≡ found b q → X
+unfolding count
+found-count w low high s p {B} k b q {X} next e = from (reading.field w s p) e
+  where
+    no-read : {n : ℕ} → _≡_ {A = Read B} (refused n) (found b q) → X
+    no-read g = let z : _≡_ {A = ℕ} 0 1 = cc in absurd (omega arith)
+
+    judged : (n r : ℕ) (a c : Bool) → leb n high ≡ c → onRead (onRead (need (a && c) 4 s r) (λ x r. found n r)) k ≡ found b q → X
+    judged n r true true h g = next n r (leb-true n high h) g
+    judged n r true false h g = no-read g
+    judged n r false c h g = no-read g
+
+    from : (m : Read ℕ) → onRead (onRead m (λ n r. onRead (need (leb low n && leb n high) 4 s r) (λ x r. found n r))) k ≡ found b q → X
+    from (found n r) g = judged n r (leb low n) (leb n high) refl g
+    from (refused n) g = no-read g
+
+-- "0..16, 1..8, 1..16, 0..16": at most so many
+pub record CountsSmall (n : Counts) : Type 0 where
+  pub columns : n .columns ≤ 16
+  pub keys : n .keys ≤ 8
+  pub tables : n .tables ≤ 16
+  pub policies : n .policies ≤ 16
+
+pub counts-small : (s : List ℕ) (n : Counts) (q : ℕ) → counts s 0 ≡ found n q → CountsSmall n
+unfolding counts
+counts-small s n q e = from (reading.field 4 s 0) e
+  where
+    no-read : {X : Type 0} {m : ℕ} → _≡_ {A = Read Counts} (refused m) (found n q) → X
+    no-read g = let z : _≡_ {A = ℕ} 0 1 = cc in absurd (omega arith)
+
+    rest : (o : ℕ) → onRead (count 5 0 16 s o) (λ x o. onRead (count 4 1 8 s o) (λ k o. onRead (count 5 1 16 s o) (λ t o. onRead (count 5 0 16 s o) (λ p o. found (countsOn x k t p) o)))) ≡ found n q → CountsSmall n
+    rest o = found-count 5 0 16 s o _ n q λ x o hx. found-count 4 1 8 s o _ n q λ k o hk. found-count 5 1 16 s o _ n q λ t o ht. found-count 5 0 16 s o _ n q λ p o hp g.
+        let same : countsOn x k t p ≡ n = cc in
+        let a : x ≡ n .columns = ap (λ (z : Counts). z .columns) same in
+        let b : k ≡ n .keys = ap (λ (z : Counts). z .keys) same in
+        let c : t ≡ n .tables = ap (λ (z : Counts). z .tables) same in
+        let d : p ≡ n .policies = ap (λ (z : Counts). z .policies) same in
+        record { columns = omega arith; keys = omega arith; tables = omega arith; policies = omega arith }
+
+    one : (o : ℕ) (b : Bool) → onRead (need b 3 s o) (λ z o. onRead (count 5 0 16 s o) (λ x o. onRead (count 4 1 8 s o) (λ k o. onRead (count 5 1 16 s o) (λ t o. onRead (count 5 0 16 s o) (λ p o. found (countsOn x k t p) o))))) ≡ found n q → CountsSmall n
+    one o true g = rest o g
+    one o false g = no-read g
+
+    from : (m : Read ℕ) → onRead m (λ e o. onRead (need (eqb e 1) 3 s o) (λ z o. onRead (count 5 0 16 s o) (λ x o. onRead (count 4 1 8 s o) (λ k o. onRead (count 5 1 16 s o) (λ t o. onRead (count 5 0 16 s o) (λ p o. found (countsOn x k t p) o)))))) ≡ found n q → CountsSmall n
+    from (found e o) g = one o (eqb e 1) g
+    from (refused m) g = no-read g

@@ -27,15 +27,9 @@ pub struct Step {
     pub next: Place,
 }
 
-// The counts that a sheet begins with, and the place after them.
+// The counts that a sheet begins with (columns, keys, tables, policies), and the place after them.
 pub enum SheetHead {
-    Counts {
-        columns: u64,
-        keys: u64,
-        tables: u64,
-        policies: u64,
-        next: Place,
-    },
+    Counts(u64, u64, u64, u64, Place),
     Refused(u32),
 }
 
@@ -48,11 +42,7 @@ pub struct AtomFields {
 
 // An atom's variable and operator, judged, and the place after them.
 pub enum AtomHead {
-    Head {
-        variable: u64,
-        operator: u64,
-        next: Place,
-    },
+    Head(u64, u64, Place),
     Refused(u32),
 }
 
@@ -188,13 +178,7 @@ fn head_of(
         let Taken::Value(p) = policies else {
             return SheetHead::Refused(refusal_of(policies));
         };
-        return SheetHead::Counts {
-            columns: c,
-            keys: k,
-            tables: t,
-            policies: p,
-            next: next,
-        };
+        return SheetHead::Counts(c, k, t, p, next);
     }
     SheetHead::Refused(3)
 }
@@ -287,11 +271,7 @@ fn judged(f: AtomFields, columns: u64, keys: u64, kinds: [u8; 24]) -> AtomHead
             return AtomHead::Refused(5);
         }
         if fits_kind(kinds, v, o) {
-            return AtomHead::Head {
-                variable: v,
-                operator: o,
-                next: next,
-            };
+            return AtomHead::Head(v, o, next);
         }
         return AtomHead::Refused(7);
     }
