@@ -2,7 +2,9 @@
 
 use fiddlecomet_host::compare::compare;
 use fiddlecomet_host::compare::impostors::IMPOSTORS;
-use fiddlecomet_host::question::Reading;
+use fiddlecomet_host::making::questions::question;
+use fiddlecomet_host::making::random::Random;
+use fiddlecomet_host::question::{Answers, Reading};
 
 const QUESTIONS: usize = 20_000;
 
@@ -40,4 +42,36 @@ fn every_refusal_is_reached() {
         let missed: Vec<usize> = (0..=11).chain(own.iter().copied()).filter(|&n| compared.by_refusal[n] == 0).collect();
         assert!(missed.is_empty(), "{call} never gets {missed:?}: {compared:?}");
     }
+}
+
+/// The questions bring out every kind of answer, not only refusals and the plainest ones.
+#[test]
+fn answers_vary() {
+    let answers = |call: &str| -> Vec<Vec<u64>> {
+        let mut random = Random::new(1);
+        let replies = (0..QUESTIONS).map(|_| Reading.answer(&question(&mut random, call)).numbers);
+        replies.filter(|numbers| numbers[0] == 0).collect()
+    };
+    let count =
+        |answers: &[Vec<u64>], wanted: fn(&[u64]) -> bool| answers.iter().filter(|numbers| wanted(numbers)).count();
+    let isolated = answers("isolated");
+    let seen = [
+        count(&isolated, |n| n[1] == 0),
+        count(&isolated, |n| n[1] == 1 && n[2] == 0 && n[3] == 0),
+        count(&isolated, |n| n[3] > n[2] && n[2] == 0),
+        count(&isolated, |n| n[2] > 0),
+        count(&isolated, |n| n[3] > n[2] && n[2] > 0),
+    ];
+    println!("isolated, leaks 0 0, 0 b, a .., a b with a below b: {seen:?}");
+    assert!(seen.iter().all(|&times| times >= 20), "{seen:?}");
+    for (call, least) in [("dead", 500), ("covers", 500)] {
+        let given = answers(call);
+        let (yes, no) = (count(&given, |n| n[1] == 1), count(&given, |n| n[1] == 0));
+        println!("{call}: {yes} yes, {no} no");
+        assert!(yes >= least && no >= least, "{call}: {yes} yes, {no} no");
+    }
+    let listed = answers("listing");
+    let (some, none) = (count(&listed, |n| n[2] > 0), count(&listed, |n| n[2] == 0));
+    println!("listing: {some} with rows, {none} without");
+    assert!(some >= 1000 && none >= 1000, "{some} {none}");
 }

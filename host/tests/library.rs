@@ -6,10 +6,12 @@
 //! whether that may be.
 
 use fiddlecomet_host::cases::{groups, Asked};
-use fiddlecomet_host::compare::compare;
+use fiddlecomet_host::compare::{compare, differ};
 use fiddlecomet_host::library::exports;
 use fiddlecomet_host::library::fenced::Library;
-use fiddlecomet_host::question::{Answers, Reading};
+use fiddlecomet_host::making::questions::{question, CALLS};
+use fiddlecomet_host::making::random::Random;
+use fiddlecomet_host::question::{Answers, Question, Reading};
 
 fn number(variable: &str, otherwise: u64) -> u64 {
     std::env::var(variable).ok().map_or(otherwise, |text| text.parse().expect("a number"))
@@ -57,6 +59,39 @@ fn normal_form() {
 #[test]
 fn listing() {
     against("listing");
+}
+
+/// Some sheets, each cut at every byte and with every bit turned, under every call.
+#[test]
+fn every_cut_and_every_bit() {
+    let mut random = Random::new(2);
+    let library = Library::default();
+    let mut compared = 0;
+    for _ in 0..8 {
+        let calls: Vec<&str> = CALLS.into_iter().filter(|call| exports(call)).collect();
+        let whole: Vec<Question> = calls.iter().map(|call| question(&mut random, call)).collect();
+        for question in whole.iter().filter(|question| question.sheet().len() < 300) {
+            for damaged in cuts_and_turns(question.sheet()) {
+                let mut question = question.clone();
+                *question.sheet_mut() = damaged;
+                if let Some(difference) = differ(&Reading, &library, &question) {
+                    panic!("{difference}");
+                }
+                compared += 1;
+            }
+        }
+    }
+    println!("compared cuts and turned bits: {compared}");
+}
+
+fn cuts_and_turns(bytes: &[u8]) -> Vec<Vec<u8>> {
+    let cuts = (0..bytes.len()).map(|length| bytes[..length].to_vec());
+    let turn = |bit: usize| {
+        let mut turned = bytes.to_vec();
+        turned[bit / 8] ^= 0x80 >> (bit % 8);
+        turned
+    };
+    cuts.chain((0..bytes.len() * 8).map(turn)).collect()
 }
 
 #[test]

@@ -15,6 +15,7 @@ struct Action {
 }
 
 extern "C" {
+    fn write(file: c_int, bytes: *const u8, length: usize) -> isize;
     fn sigaction(signal: c_int, new: *const Action, old: *mut Action) -> c_int;
     fn _exit(status: c_int) -> !;
 }
@@ -32,8 +33,12 @@ thread_local! {
 extern "C" fn report(signal: c_int) {
     let asked = ASKED.get();
     if !asked.is_null() {
-        // SAFETY: set for as long as the call lasts, and the call is what trapped.
-        eprintln!("\ntrap by signal {signal} in: {}", question_words(unsafe { &*asked }));
+        // SAFETY: set for as long as the call lasts, and the call is what trapped. Written past the
+        // test harness, which would keep the words to itself.
+        unsafe {
+            let words = format!("\ntrap by signal {signal} in: {}\n", question_words(&*asked));
+            write(2, words.as_ptr(), words.len());
+        }
     }
     // SAFETY: nothing is left to be done.
     unsafe { _exit(128 + signal) }

@@ -5,6 +5,7 @@ use super::{damage, sheets};
 use crate::question::Question;
 use crate::reading::pack;
 use crate::reading::sheet::Sheet;
+use crate::reading::verdicts::branch_count;
 use crate::reading::{ROW_LIST_BYTES, SHEET_BYTES};
 
 /// The six calls.
@@ -33,8 +34,7 @@ pub fn question(random: &mut Random, call: &str) -> Question {
         4 if random.once_in(8) => (0..random.below(64)).map(|_| random.bits() as u8).collect(),
         _ => pack::sheet(&made),
     };
-    let table = number(random, made.tables.len());
-    let command = number(random, 4);
+    let (table, command) = asked(random, &made);
     match call {
         "branches" => Question::Branches { sheet: packed, table, command },
         "dead" => Question::Dead { sheet: packed, table, command },
@@ -56,6 +56,17 @@ fn at_the_limit(random: &mut Random, made: &Sheet) -> Vec<u8> {
     let mut bytes = pack::sheet(made);
     bytes.resize(SHEET_BYTES + random.below(3), 0);
     bytes
+}
+
+/// A table and command: mostly such that some branch is there.
+fn asked(random: &mut Random, made: &Sheet) -> (u32, u32) {
+    let all = (0..made.tables.len()).flat_map(|table| (0..4).map(move |command| (table, command)));
+    let busy: Vec<(usize, usize)> = all.filter(|&(table, command)| branch_count(made, table, command) > 0).collect();
+    if busy.is_empty() || random.once_in(4) {
+        return (number(random, made.tables.len()), number(random, 4));
+    }
+    let &(table, command) = random.pick(&busy);
+    (table as u32, command as u32)
 }
 
 /// A number asked: mostly one that is there.

@@ -140,7 +140,23 @@ pub fn clause(random: &mut Random, sheet: &Sheet, variables: &[Variable], size: 
         let of = if random.once_in(4) { variables } else { &few };
         atom(random, sheet, of, variables)
     };
-    (0..atoms).map(|_| one()).collect()
+    let mut atoms: Clause = (0..atoms).map(|_| one()).collect();
+    if random.once_in(3) {
+        keep_to_tenant(random, sheet, variables, &mut atoms);
+    }
+    atoms
+}
+
+/// Makes an atom an equality of key 0 with a column, where there is one of its kind: the clause that
+/// customers write most.
+fn keep_to_tenant(random: &mut Random, sheet: &Sheet, variables: &[Variable], atoms: &mut Clause) {
+    let tenant = Variable::Key(0);
+    let alike = |&&one: &&Variable| matches!(one, Variable::Column(_)) && sheet.kind(one) == sheet.kind(tenant);
+    let columns: Vec<Variable> = variables.iter().filter(alike).copied().collect();
+    if !columns.is_empty() && !atoms.is_empty() {
+        let place = random.below(atoms.len());
+        atoms[place] = Atom { variable: *random.pick(&columns), test: Test::Equals(tenant) };
+    }
 }
 
 fn atom(random: &mut Random, sheet: &Sheet, variables: &[Variable], mates: &[Variable]) -> Atom {
