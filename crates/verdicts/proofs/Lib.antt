@@ -1,0 +1,4 @@
+pub mod LayLaws
+pub mod LeakLaws
+pub mod TenantLaws
+pub mod ReplyLaws

@@ -1,0 +1,218 @@
+// The verdicts: how many branches a table and command have, whether they are dead, whether isolated, and whether a policy covers another. A
+// packed sheet and the numbers asked come in, judged in full 32 bits; out goes an enum, a verdict or the first refusal (1 to 13). Makes true of
+// 01, "Values and meaning": "Dead: no row and session is admitted", "A leak is named by the first pair (a, b), a before b in importance", and
+// "Policy A covers policy B when each clause of B that some row and session meets is covered by a single clause of A". Stands on sheet (the
+// directory), branches (the clauses that a branch picks) and asked (what a conjunction can be met by).
+ghost use mathlib.Core.Path.{_≡_};
+ghost use mathlib.Core.Bool.{false};
+ghost use mathlib.Core.List.{[], _++_, map};
+ghost use Prim.Native.Nat.{ℕ, _+_, _*_, _<_, _≤_};
+ghost use lib.ListN.{length, getD};
+ghost use Rattle.lists.specs.Decides.{Decides};
+ghost use Rattle.meaning.specs.Sheets.{Sheet};
+ghost use Rattle.meaning.specs.Questions.{IsLive};
+ghost use Rattle.meaning.specs.Replies.{IsolationOf};
+ghost use Rattle.branches.specs.Parts.{clausesOf, conjunction};
+ghost use Rattle.asked.specs.Words.{wordAtoms, seen};
+ghost use Rattle.covering.specs.Covering.{Read};
+ghost use Rattle.verdicts.specs.Questions.{Poses, LaidAt, TellsBranch, TellsPair, TellsLeaking, Marks};
+use branches::Branch;
+use meaning::Isolation;
+use sheet::Directory;
+
+// What a table and command ask of a sheet: the policies' roles and clause counts, N, and the last values of the variables' kinds.
+pub struct Question {
+    pub roles: [u64; 16],
+    pub counts: [u64; 16],
+    pub number: u64,
+    pub top: [u64; 32],
+}
+
+// Does what is asked stand? A refusal carries its number.
+pub enum Standing {
+    Stands,
+    Refused(u32),
+}
+
+pub struct Posed {
+    pub standing: Standing,
+    pub directory: Directory,
+    pub question: Question,
+}
+
+// Clause number k of policy p is laid behind n atoms of the words, where there is one; the answer is how many atoms there are then.
+fn lay_clause(
+    s: &[u8],
+    d: Directory,
+    p: usize,
+    k: u64,
+    words: &mut [u64],
+    n: usize,
+    second: bool,
+) -> usize
+    requires { ⌜ (p < 16) × (n * 11 + 88 ≤ length (now words)) ⌝ }
+    ensures count { λ r. ⌜ r ≤ n + 8 ⌝ }
+    ensures atoms { λ r. ⌜ ((sheet : Sheet) → Read (now (s .entry)) d sheet → wordAtoms (now (words .exit)) r ≡ wordAtoms (now (words .entry)) n ++ map (seen second) (getD (clausesOf sheet p) k [])) ⌝ }
+{
+    let policies = d.policies;
+    let policy = d.policy[p];
+    let count = policy.count;
+    if policies <= p as u64 {
+        return n;
+    }
+    if count as u64 <= k {
+        return n;
+    }
+    if 8 <= k {
+        return n;
+    }
+    let c = covering::clause_of(s, d, p, k as usize);
+    asked::lay(words, n, c, second)
+}
+
+// The clauses of a branch are laid behind n atoms of the words, for the first session or the second.
+fn lay_branch(s: &[u8], d: Directory, b: Branch, words: &mut [u64], n: usize, second: bool) -> usize
+    requires { ⌜ (b .policy < 16) × (n * 11 + 1408 ≤ length (now words)) ⌝ }
+    ensures count { λ r. ⌜ r ≤ n + 128 ⌝ }
+    ensures atoms { λ r. ⌜ ((sheet : Sheet) → Read (now (s .entry)) d sheet → wordAtoms (now (words .exit)) r ≡ wordAtoms (now (words .entry)) n ++ map (seen second) (conjunction (clausesOf sheet) b)) ⌝ }
+{
+    let q = b.policy;
+    let slots = b.slots;
+    let mut m = lay_clause(s, d, q, slots[q], words, n, second);
+    let mut p = 0;
+    while p < 16 {
+        if p == q {
+            p += 1;
+            continue;
+        }
+        m = lay_clause(s, d, p, slots[p], words, m, second);
+        p += 1;
+    }
+    m
+}
+
+// Branch k is laid for the first session.
+fn lay_at(s: &[u8], d: Directory, q: Question, k: u64, words: &mut [u64]) -> usize
+    requires { ⌜ 1408 ≤ length (now words) ⌝ }
+    ensures count { λ r. ⌜ r ≤ 128 ⌝ }
+    ensures atoms { λ r. ⌜ LaidAt (now (s .entry)) d q k (now (words .exit)) r ⌝ }
+{
+    let roles = q.roles;
+    let counts = q.counts;
+    let b = branches::pick(roles, counts, k);
+    lay_branch(s, d, b, words, 0, false)
+}
+
+// Does some row of the table and session meet branch k?
+fn branch_met(s: &[u8], d: Directory, q: Question, k: u64) -> bool
+    ensures { λ r. ⌜ TellsBranch (now (s .entry)) d q k r ⌝ }
+{
+    let top = q.top;
+    let mut words = [0u64; 1408];
+    let n = lay_at(s, d, q, k, &mut words);
+    asked::meets(&words, n, top)
+}
+
+// "Dead: no row and session is admitted": is the table live?
+fn is_live(s: &[u8], d: Directory, q: Question) -> bool
+    ensures { λ r. ⌜ ((sheet : Sheet) (t command : ℕ) → Poses (now (s .entry)) d q sheet t command → Decides (IsLive sheet t command) r) ⌝ }
+{
+    let n = q.number;
+    let mut k: u64 = 0;
+    while k < n {
+        if branch_met(s, d, q, k) {
+            return true;
+        }
+        k += 1;
+    }
+    false
+}
+
+fn mark(met: bool) -> u8
+    ensures { λ r. ⌜ (r ≡ 0 → met ≡ false) ⌝ }
+{
+    if met {
+        return 1;
+    }
+    0
+}
+
+// The branches that nobody meets are marked 0.
+fn marked(s: &[u8], d: Directory, q: Question) -> [u8; 256]
+    ensures { λ r. ⌜ Marks (now (s .entry)) d q r ⌝ }
+{
+    let n = q.number;
+    let mut marks = [1u8; 256];
+    let mut k: usize = 0;
+    while k < 256 {
+        if n <= k as u64 {
+            return marks;
+        }
+        marks[k] = mark(branch_met(s, d, q, k as u64));
+        k += 1;
+    }
+    marks
+}
+
+// Does some row meet the n laid atoms with one session, and branch b with a session of another tenant?
+fn pair_leaks(s: &[u8], d: Directory, q: Question, words: [u64; 2838], n: usize, b: u64) -> bool
+    requires { ⌜ n ≤ 128 ⌝ }
+    ensures { λ r. ⌜ TellsPair (now (s .entry)) d q words n b r ⌝ }
+{
+    let roles = q.roles;
+    let counts = q.counts;
+    let top = q.top;
+    let c = branches::pick(roles, counts, b);
+    let mut both = words;
+    let m = lay_branch(s, d, c, &mut both, n, true);
+    asked::leaks(&both, m, top)
+}
+
+// Does the pair of branch a, whose n atoms are laid, and branch b leak? Branches that nobody meets are passed over.
+fn leaks_at(
+    s: &[u8],
+    d: Directory,
+    q: Question,
+    marks: [u8; 256],
+    words: [u64; 2838],
+    n: usize,
+    a: usize,
+    b: usize,
+) -> bool
+    requires { ⌜ (n ≤ 128) × (a < 256) × (b < 256) ⌝ }
+    ensures { λ r. ⌜ TellsLeaking (now (s .entry)) d q marks words n a b r ⌝ }
+{
+    if marks[a] == 0 {
+        return false;
+    }
+    if marks[b] == 0 {
+        return false;
+    }
+    pair_leaks(s, d, q, words, n, b as u64)
+}
+
+// "A leak is named by the first pair (a, b), a before b in importance": nested search, left from inside at the first leaking pair. Leaking is
+// symmetric, so that pairs with a at most b are enough; what belongs to a alone is laid once.
+fn first_leak(s: &[u8], d: Directory, q: Question) -> Isolation
+    requires { ⌜ q .number ≤ 256 ⌝ }
+    ensures { λ r. ⌜ ((sheet : Sheet) (t command : ℕ) → Poses (now (s .entry)) d q sheet t command → IsolationOf sheet t command r) ⌝ }
+{
+    let n = q.number as usize;
+    let marks = marked(s, d, q);
+    let mut found = Isolation::Isolated;
+    let mut a: usize = 0;
+    'search: while a < n {
+        let mut words = [0u64; 2838];
+        let laid = lay_at(s, d, q, a as u64, &mut words);
+        let mut b = a;
+        while b < n {
+            if leaks_at(s, d, q, marks, words, laid, a, b) {
+                found = Isolation::Leaks(a as u32, b as u32);
+                break 'search;
+            }
+            b += 1;
+        }
+        a += 1;
+    }
+    found
+}
