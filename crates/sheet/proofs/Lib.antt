@@ -1,3 +1,4 @@
 pub mod FieldLaws
 pub mod TurnLaws
 pub mod AtomLaws
+pub mod SelectorLaws

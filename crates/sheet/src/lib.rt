@@ -9,6 +9,7 @@ use meaning::Clause;
 
 pub mod atoms;
 pub mod clauses;
+pub mod selectors;
 pub mod fields;
 
 pub use clauses::clause_at;
@@ -77,4 +78,10 @@ pub struct AtomRead {
 pub struct ClauseRead {
     pub end: End,
     pub clause: Clause,
+}
+
+// A selector read: does it match the table?
+pub struct Chosen {
+    pub end: End,
+    pub matched: bool,
 }
