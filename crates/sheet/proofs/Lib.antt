@@ -2,3 +2,4 @@ pub mod FieldLaws
 pub mod TurnLaws
 pub mod AtomLaws
 pub mod SelectorLaws
+pub mod EntryLaws

@@ -9,10 +9,12 @@ use meaning::Clause;
 
 pub mod atoms;
 pub mod clauses;
-pub mod selectors;
+pub mod entries;
 pub mod fields;
+pub mod selectors;
 
 pub use clauses::clause_at;
+pub use entries::applies;
 
 // How many columns, keys and tables there are, and the kinds of columns (from 0) and keys (from 16), by number.
 pub struct Facts {

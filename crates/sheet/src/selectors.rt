@@ -1,13 +1,13 @@
 // Selectors: read, and matched with a table, in one walk. "Selectors nest inside selectors to a depth of six": the walk calls itself on the
 // inner selectors, the remaining depth falling at each call; a node at depth seven is refused before its bits are read.
-use bits::Field;
-use bits::Place;
-use bits::code_of;
-use bits::field_at;
 use crate::Chosen;
 use crate::End;
 use crate::Table;
 use crate::fields::number_below;
+use bits::Field;
+use bits::Place;
+use bits::code_of;
+use bits::field_at;
 ghost use mathlib.Core.Path.{_≡_};
 ghost use Prim.Native.Nat.{ℕ, _≤_, _<_};
 ghost use mathlib.Core.List.{List};
@@ -40,7 +40,15 @@ fn not_chosen(got: Field) -> Chosen
 }
 
 // What follows a leaf's node, and whether table number t is one that it names.
-fn leaf_at(s: &[u8], at: Place, node: u64, columns: u64, tables: u64, t: u64, table: Table) -> Chosen
+fn leaf_at(
+    s: &[u8],
+    at: Place,
+    node: u64,
+    columns: u64,
+    tables: u64,
+    t: u64,
+    table: Table,
+) -> Chosen
     ensures { λ r. ⌜ ((facts : Sheet) (inner : List ℕ → ℕ → Read Selector) (p : ℕ) → columns ≡ length (facts .columns) → tables ≡ length (facts .tables) → at ≡ placeAt p → node < 5 → Ends (selectorNode facts inner node (now (s .entry)) p) (λ x. r .matched ≡ matches t (tableOf table) x) (r .end)) ⌝ }
 {
     if node < 1 {
@@ -90,7 +98,15 @@ fn leaf_at(s: &[u8], at: Place, node: u64, columns: u64, tables: u64, t: u64, ta
 }
 
 // A selector of at most `depth` nodes one within another, and whether it matches table number t.
-pub fn selector_at(s: &[u8], at: Place, depth: usize, columns: u64, tables: u64, t: u64, table: Table) -> Chosen
+pub fn selector_at(
+    s: &[u8],
+    at: Place,
+    depth: usize,
+    columns: u64,
+    tables: u64,
+    t: u64,
+    table: Table,
+) -> Chosen
     ensures { λ r. ⌜ ((facts : Sheet) (p : ℕ) → columns ≡ length (facts .columns) → tables ≡ length (facts .tables) → at ≡ placeAt p → Ends (selector depth facts (now (s .entry)) p) (λ x. r .matched ≡ matches t (tableOf table) x) (r .end)) ⌝ }
 {
     if depth < 1 {
