@@ -11,7 +11,7 @@
 #include <stdio.h>
 #include <string.h>
 
-/* 01's sentences, by refusal number. */
+/* What each refusal says, by number. */
 static const char *const sentences[] = {
     "answered",
     "sheet over 16,384 bytes",

@@ -22,8 +22,8 @@
  *   State and threads. There is none: calls on any number of threads at once do not disturb each
  *   other, and the same input always gets the same reply. No locale, no clock, no file, no heap.
  *
- *   Stack. A call uses a fixed amount of the caller's stack and no other memory: docs/PERFORMANCE.md
- *   has the measured figures. A thread with 256 KiB of stack has room for each call.
+ *   Stack. A call uses a bounded amount of the caller's stack and no other memory of its own; the
+ *   figures measured for each call stand in docs/PERFORMANCE.md.
  *
  * Numbers asked
  *

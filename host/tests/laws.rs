@@ -130,7 +130,7 @@ fn some_world(
     sheet: &Sheet,
     clauses: &[&Clause],
     sessions: usize,
-    wanted: &mut dyn FnMut(&[Content; 16], &[Vec<Content>]) -> bool,
+    wanted: impl Fn(&[Content; 16], &[Vec<Content>]) -> bool,
 ) -> bool {
     let constants = constants(clauses);
     let kinds: Vec<Kind> =
@@ -176,14 +176,14 @@ fn verdicts_agree_with_trying_contents() {
         tried += 1;
         let meets =
             |clause: &Clause, columns: &[Content; 16], keys: &[Content]| clause_is_met(clause, look_up(columns, keys));
-        let lives = some_world(&made, &[&q], 1, &mut |columns, keys| meets(&q, columns, &keys[0]));
+        let lives = some_world(&made, &[&q], 1, |columns, keys| meets(&q, columns, &keys[0]));
         assert_eq!(is_live(&made, &q), lives, "{made:?} {q:?}");
-        let escapes = some_world(&made, &[&p, &q], 1, &mut |columns, keys| {
+        let escapes = some_world(&made, &[&p, &q], 1, |columns, keys| {
             meets(&q, columns, &keys[0]) && !meets(&p, columns, &keys[0])
         });
         assert_eq!(clause_covers(&made, &p, &q), !escapes, "{made:?} {p:?} {q:?}");
         let conditions = Conditions::none(&made).with(&p, Session::One).with(&q, Session::Two);
-        let leaks = some_world(&made, &[&p, &q], 2, &mut |columns, keys| {
+        let leaks = some_world(&made, &[&p, &q], 2, |columns, keys| {
             keys[0][0] != keys[1][0] && meets(&p, columns, &keys[0]) && meets(&q, columns, &keys[1])
         });
         assert_eq!(conditions.allow_two_tenants(), leaks, "{made:?} {p:?} {q:?}");

@@ -11,7 +11,7 @@ use fiddlecomet_host::library::exports;
 use fiddlecomet_host::library::fenced::Library;
 use fiddlecomet_host::making::questions::{question, CALLS};
 use fiddlecomet_host::making::random::Random;
-use fiddlecomet_host::question::{Answers, Question, Reading};
+use fiddlecomet_host::question::{Answers, Question, Reading, Reply};
 
 fn number(variable: &str, otherwise: u64) -> u64 {
     std::env::var(variable).ok().map_or(otherwise, |text| text.parse().expect("a number"))
@@ -59,6 +59,43 @@ fn normal_form() {
 #[test]
 fn listing() {
     against("listing");
+}
+
+/// "Thread-safe, no state": the same replies from eight threads at once, in another order on each.
+#[test]
+fn many_threads_at_once() {
+    let calls: Vec<&str> = CALLS.into_iter().filter(|call| exports(call)).collect();
+    let mut random = Random::new(3);
+    let asked: Vec<Question> =
+        (0..300).flat_map(|_| calls.iter().map(|call| question(&mut random, call)).collect::<Vec<_>>()).collect();
+    let replies: Vec<Reply> = asked.iter().map(|question| Reading.answer(question)).collect();
+    std::thread::scope(|scope| {
+        for thread in 0..8 {
+            let (asked, replies) = (&asked, &replies);
+            scope.spawn(move || {
+                let library = Library::default();
+                for place in 0..asked.len() {
+                    let place = (place * 7 + thread * 13) % asked.len();
+                    assert_eq!(library.answer(&asked[place]), replies[place]);
+                }
+            });
+        }
+    });
+    println!("compared on eight threads: {}", 8 * asked.len());
+}
+
+/// The replies are laid out as tests/header.c finds them by the header.
+#[test]
+fn replies_are_laid_out_as_in_the_header() {
+    use fiddlecomet_host::library::{BranchCount, Cover, Isolation, Life, Listed, Written};
+    use std::mem::{offset_of, size_of};
+    assert_eq!((size_of::<Listed>(), offset_of!(Listed, length), offset_of!(Listed, rows)), (12, 4, 8));
+    assert_eq!((size_of::<Written>(), offset_of!(Written, length)), (8, 4));
+    assert_eq!((size_of::<Life>(), offset_of!(Life, dead)), (8, 4));
+    assert_eq!((size_of::<Isolation>(), offset_of!(Isolation, leaks)), (16, 4));
+    assert_eq!((offset_of!(Isolation, a), offset_of!(Isolation, b)), (8, 12));
+    assert_eq!((size_of::<Cover>(), offset_of!(Cover, covers)), (8, 4));
+    assert_eq!((size_of::<BranchCount>(), offset_of!(BranchCount, count)), (16, 8));
 }
 
 /// Some sheets, each cut at every byte and with every bit turned, under every call.

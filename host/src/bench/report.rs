@@ -8,12 +8,20 @@ use std::path::PathBuf;
 pub struct Report {
     folder: PathBuf,
     text: String,
+    pub targets: Vec<Target>,
+}
+
+/// Something that is to hold of the library, and what was measured, as it is shown.
+pub struct Target {
+    pub wanted: &'static str,
+    /// None where the library doesn't export the call.
+    pub measured: Option<(String, bool)>,
 }
 
 impl Report {
     pub fn new(folder: PathBuf) -> io::Result<Report> {
         fs::create_dir_all(&folder)?;
-        Ok(Report { folder, text: String::new() })
+        Ok(Report { folder, text: String::new(), targets: vec![] })
     }
 
     pub fn say(&mut self, line: &str) {
@@ -42,7 +50,19 @@ impl Report {
         fs::write(self.folder.join(file), svg(title, x_label, &drawn))
     }
 
-    pub fn finish(self) -> io::Result<()> {
+    /// Keeps a target for the table at the end.
+    pub fn target(&mut self, wanted: &'static str, measured: Option<(String, bool)>) {
+        self.targets.push(Target { wanted, measured });
+    }
+
+    /// Shows the targets and keeps the text.
+    pub fn finish(mut self) -> io::Result<()> {
+        self.table("Targets", &["wanted", "measured", "met"]);
+        for Target { wanted, measured } in std::mem::take(&mut self.targets) {
+            let (shown, met) =
+                measured.map_or(("-".to_string(), "-"), |(shown, met)| (shown, if met { "yes" } else { "no" }));
+            self.row(&[wanted.to_string(), shown, met.to_string()]);
+        }
         fs::write(self.folder.join("table.md"), self.text)
     }
 }

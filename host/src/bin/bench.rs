@@ -5,6 +5,7 @@ use fiddlecomet_host::bench::report::{machine, Report};
 use fiddlecomet_host::bench::sheets::{self, Leak};
 use fiddlecomet_host::bench::time::{readable, time, Effort, Timing, FULL, QUICK};
 use fiddlecomet_host::bench::{smt, stack};
+use fiddlecomet_host::cases::limits;
 use fiddlecomet_host::library::{self, exports};
 use fiddlecomet_host::making::random::Random;
 use fiddlecomet_host::making::sheets as random_sheets;
@@ -127,6 +128,7 @@ fn listings(report: &mut Report, effort: Effort, quick: bool) -> io::Result<()> 
         ],
     );
     let mut plots: Vec<Series> = Vec::new();
+    let (mut to_postgres, mut to_rust): (Vec<f64>, Vec<f64>) = Default::default();
     for (s, (name, sheet)) in sheets.iter().enumerate() {
         let packed = pack::sheet(sheet);
         let mut series: [Vec<(f64, f64)>; 3] = Default::default();
@@ -149,6 +151,8 @@ fn listings(report: &mut Report, effort: Effort, quick: bool) -> io::Result<()> 
                 ratio(a, b),
                 a.map_or("-".into(), |seconds| format!("{:.0}", count as f64 / seconds)),
             ]);
+            to_postgres.extend(c.zip(a).map(|(theirs, ours)| theirs / ours));
+            to_rust.extend(a.map(|ours| ours / rust.median));
             for (series, time) in series.iter_mut().zip([a, b, c]) {
                 series.extend(time.map(|time| (count as f64, time)));
             }
@@ -161,6 +165,16 @@ fn listings(report: &mut Report, effort: Effort, quick: bool) -> io::Result<()> 
             plots.push(Series { name: format!("PostgreSQL, {short}"), points: theirs });
         }
     }
+    let least = to_postgres.iter().copied().reduce(f64::min);
+    let most = to_rust.iter().copied().reduce(f64::max);
+    report.target(
+        "listing: at least 3 times as fast as PostgreSQL, at its least",
+        least.map(|least| (format!("{least:.1}"), least >= 3.0)),
+    );
+    report.target(
+        "listing: within 3 times of the Rust, at its most",
+        most.map(|most| (format!("{most:.1}"), most <= 3.0)),
+    );
     report.plot("listing.svg", "Listing: rows against time", "rows in the list", &plots)
 }
 
@@ -230,6 +244,7 @@ fn verdicts(report: &mut Report, effort: Effort, quick: bool) -> io::Result<()> 
         assert_eq!(calls::isolated(&packed, 0, 0), Ok(Isolation::Isolated));
         start.elapsed().as_secs_f64()
     });
+    report.target("the worst sheet's verdict: under 5 s", ours.map(|time| (readable(time.median), time.median < 5.0)));
     let cells = [format!("none; the worst sheet found, {} bytes", packed.len()), "256".into(), cell(ours)];
     report.row(&[&cells[..], &[rust.map_or("-".into(), readable)], &["-"; 4].map(String::from)].concat());
     let [ours, rust, whole, paired] = plots;
@@ -293,6 +308,11 @@ fn random_verdicts(report: &mut Report, quick: bool) {
         assert_eq!(*found, expected, "z3 differs from the reading");
     }
     let z3 = theirs.map(|found| found.0);
+    let total = z3.zip(ours).map(|(theirs, ours)| theirs / ours);
+    report.target(
+        "verdicts on random sheets: at least 100 times as fast as z3 in total",
+        total.map(|ratio| (format!("{ratio:.0}"), ratio >= 100.0)),
+    );
     report.table(
         "Verdicts on random sheets",
         &["sheets", "questions to z3", "library", "Rust", "z3", "z3 / library", "z3 / Rust"],
@@ -314,6 +334,10 @@ fn readings(report: &mut Report, effort: Effort, quick: bool) -> io::Result<()> 
         let ours = by_library(effort, "branches", || library::branches(&packed, 0, 0));
         let rust = time(effort, || calls::branches(&packed, 0, 0));
         let bytes = packed.len() as f64;
+        if size == 16_000 {
+            let wanted = "reading 16,000 bytes: well under a millisecond";
+            report.target(wanted, ours.map(|time| (readable(time.median), time.median < 5e-4)));
+        }
         let per_byte = |time: f64| format!("{:.2}", time / bytes * 1e9);
         report.row(&[
             packed.len().to_string(),
@@ -378,12 +402,14 @@ fn stacks(report: &mut Report) {
     let session = pack::contents(&[Some(1), Some(1)]);
     let inputs: Vec<Vec<u8>> = vec![
         many,
+        pack::sheet(&limits::sheet_of(16_384)),
         pack::sheet(&sheets::branches(64, Leak::None)),
         pack::sheet(&sheets::branches(256, Leak::First)),
         pack::sheet(&sheets::of_bytes(16_000)),
         pack::sheet(&sheets::of_atoms(8)),
     ];
     let mut out = vec![0; 70_000];
+    let mut peaks = Vec::new();
     for call in ["listing", "normal_form", "dead", "isolated", "covers", "branches"] {
         let (mut ours, mut rust) = (0, 0);
         for sheet in &inputs {
@@ -407,5 +433,16 @@ fn stacks(report: &mut Report) {
             }));
         }
         report.row(&[call.into(), if exports(call) { ours.to_string() } else { "-".into() }, rust.to_string()]);
+        if exports(call) {
+            peaks.push((call, ours));
+        }
     }
+    let listing = peaks.iter().find(|(call, _)| *call == "listing");
+    report
+        .target("stack of a listing: under 16 KiB", listing.map(|(_, bytes)| (bytes.to_string(), *bytes < 16 * 1024)));
+    let most = peaks.iter().max_by_key(|(_, bytes)| *bytes);
+    report.target(
+        "stack of every call: under 64 KiB",
+        most.map(|(call, bytes)| (format!("{bytes} ({call})"), *bytes < 64 * 1024)),
+    );
 }

@@ -18,7 +18,7 @@ pub fn unhex(word: &str) -> Option<Vec<u8>> {
     }
     let digits = word.as_bytes();
     let byte = |pair: &[u8]| u8::from_str_radix(std::str::from_utf8(pair).ok()?, 16).ok();
-    (digits.len() % 2 == 0).then(|| digits.chunks(2).map(byte).collect::<Option<Vec<u8>>>())?
+    digits.len().is_multiple_of(2).then(|| digits.chunks(2).map(byte).collect::<Option<Vec<u8>>>())?
 }
 
 /// The question as words: the call and its arguments; a lent output is given by its length.

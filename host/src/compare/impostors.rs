@@ -91,7 +91,7 @@ pub const IMPOSTORS: [Impostor; 16] = [
         name: "clears the output's last byte",
         call: "listing",
         spoil: |_, mut r| {
-            r.out.iter_mut().last().map(|byte| *byte = 0);
+            r.out.iter_mut().last().into_iter().for_each(|byte| *byte = 0);
             r
         },
     },

@@ -42,7 +42,7 @@ impl Library {
     /// Mostly the unreadable page behind, which an unchecked read runs into.
     fn side(&self) -> Side {
         self.calls.set(self.calls.get() + 1);
-        if self.calls.get() % 4 == 0 {
+        if self.calls.get().is_multiple_of(4) {
             Side::Front
         } else {
             Side::Back
@@ -50,7 +50,7 @@ impl Library {
     }
 
     fn null_if_empty(&self, at: *mut u8, bytes: &[u8]) -> *mut u8 {
-        if bytes.is_empty() && self.calls.get() % 2 == 0 {
+        if bytes.is_empty() && self.calls.get().is_multiple_of(2) {
             std::ptr::null_mut()
         } else {
             at

@@ -15,10 +15,10 @@ pub fn normal_form(sheet: &Sheet) -> Sheet {
 }
 
 fn normal_clauses(sheet: &Sheet, clauses: &[Clause]) -> Vec<Clause> {
-    // 1. "Drop each clause that no row and session meets."
+    // Step 1: "Drop each clause that no row and session meets."
     let live = clauses.iter().filter(|clause| is_live(sheet, clause));
     let mut normal: Vec<Clause> = live.map(|clause| normal_clause(sheet, clause)).collect();
-    // 6. "Sort clauses by their bits, count included. From last to first, drop a clause covered by
+    // Step 6: "Sort clauses by their bits, count included. From last to first, drop a clause covered by
     // one remaining other."
     normal.sort_by_cached_key(|clause| pack::bits(&pack::clause_fields(clause)));
     drop_from_last(normal, |clause, others| others.iter().any(|other| clause_covers(sheet, other, clause)))
@@ -28,10 +28,10 @@ fn normal_clauses(sheet: &Sheet, clauses: &[Clause]) -> Vec<Clause> {
 fn normal_clause(sheet: &Sheet, clause: &Clause) -> Clause {
     let mut atoms: Clause = clause.iter().cloned().map(turned).map(bounded).collect();
     atoms = merged(atoms);
-    // 4. "Sort atoms by their bits; drop repeats."
+    // Step 4: "Sort atoms by their bits; drop repeats."
     atoms.sort_by_cached_key(atom_bits);
     atoms.dedup();
-    // 5. "From last to first, drop an atom that the remaining others imply."
+    // Step 5: "From last to first, drop an atom that the remaining others imply."
     drop_from_last(atoms, |atom, others| Conditions::none(sheet).with(others, Session::One).imply(atom))
 }
 
@@ -39,7 +39,7 @@ fn atom_bits(atom: &Atom) -> BitString {
     pack::bits(&pack::atom_fields(atom))
 }
 
-/// 2. "Equality of a variable with itself becomes 'is not null'. Otherwise the lower variable number
+/// Step 2: "Equality of a variable with itself becomes 'is not null'. Otherwise the lower variable number
 /// stands left."
 fn turned(atom: Atom) -> Atom {
     match atom.test {
@@ -51,7 +51,7 @@ fn turned(atom: Atom) -> Atom {
     }
 }
 
-/// 3. "Below v becomes at most v−1; above v becomes at least v+1. List values ascend, each once."
+/// Step 3: "Below v becomes at most v−1; above v becomes at least v+1. List values ascend, each once."
 /// A clause that is met has no bound past the ends of the integers.
 fn bounded(atom: Atom) -> Atom {
     let test = match atom.test {
@@ -70,7 +70,7 @@ fn ascending(mut list: Vec<i64>) -> Vec<i64> {
     list
 }
 
-/// 3. "All in-lists on one variable become one, their common values."
+/// Step 3: "All in-lists on one variable become one, their common values."
 fn merged(atoms: Clause) -> Clause {
     let mut merged: Clause = Vec::new();
     for atom in atoms {
