@@ -69,5 +69,5 @@ lost-of {r} (found y o) e g =
     let z : _≡_ {A = ℕ} 0 1 = cc in absurd (omega arith)
 lost-of {r} (refused n) e g = (n, refl)
 
-pub ends-by : {r : ContentRead} {x : Content} {q : ℕ} (p m : ℕ) → r ≡ Found x q → endedBy p m r → (p ≤ q) × (q ≤ m)
-ends-by p m e h = subst (endedBy p m) e h
+pub ends-by : {r : ContentRead} {x : Content} {q : ℕ} (p m top : ℕ) → r ≡ Found x q → endedBy p m top r → (p ≤ q) × (q ≤ m) × (q ≤ top)
+ends-by p m top e h = subst (endedBy p m top) e h

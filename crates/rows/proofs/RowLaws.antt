@@ -18,8 +18,8 @@ use Rattle.rows.specs.declared.Ended.{Ended}
 use Rattle.rows.specs.declared.Ended.the-variants.{At, Lost}
 use Rattle.rows.specs.Held.{within, endOf, Filled, ContentsRead, RowHeld, RowRead, SessionHeld, SessionRead}
 
-pub ends-within : {r : Ended} {q : ℕ} (p m : ℕ) → r ≡ At q → within p m r → (p ≤ q) × (q ≤ m)
-ends-within p m e h = subst (within p m) e h
+pub ends-within : {r : Ended} {q : ℕ} (p m top : ℕ) → r ≡ At q → within p m top r → (p ≤ q) × (q ≤ m) × (q ≤ top)
+ends-within p m top e h = subst (within p m top) e h
 
 -- what an answer tells of the reader
 pub at-of : {A : Type 0} {r : Ended} {q : ℕ} (m : Read A) → r ≡ endOf m → r ≡ At q → (a : A) × (m ≡ found a q)
@@ -139,6 +139,6 @@ module _ (n : ℕ) (small : n ≤ 8) (sheet : Sheet) (s : List ℕ) (before afte
         go true xs f = (refl, session-held n xs before after small f)
         go false xs f = refl
 
-pub within-more : (from p m most : ℕ) (r : Ended) → from ≤ p → m ≤ most → within p m r → within from most r
-within-more from p m most (At q) l k h = let a = h .0 in let b = h .1 in (omega arith, omega arith)
-within-more from p m most Lost l k h = tt
+pub within-more : (from p m most top : ℕ) (r : Ended) → from ≤ p → m ≤ most → within p m top r → within from most top r
+within-more from p m most top (At q) l k h = let a = h .0 in let b = h .1 in (omega arith, omega arith, h .2)
+within-more from p m most top Lost l k h = tt

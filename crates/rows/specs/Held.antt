@@ -28,15 +28,15 @@ abbrev pub contentFound : Read Content → ContentRead
 contentFound (found c q) = Found c q
 contentFound (refused n) = Lost
 
--- what is found at bit number p ends by bit number m
-abbrev pub endedBy : ℕ → ℕ → ContentRead → Type 0
-endedBy p m (Found c q) = (p ≤ q) × (q ≤ m)
-endedBy p m Lost = Unit {0}
+-- what is found at bit number p ends by bit number m, and by `top`
+abbrev pub endedBy : ℕ → ℕ → ℕ → ContentRead → Type 0
+endedBy p m top (Found c q) = (p ≤ q) × (q ≤ m) × (q ≤ top)
+endedBy p m top Lost = Unit {0}
 
--- what starts at bit number p ends by bit number m
-abbrev pub within : ℕ → ℕ → Ended → Type 0
-within p m (ended.At q) = (p ≤ q) × (q ≤ m)
-within p m ended.Lost = Unit {0}
+-- what starts at bit number p ends by bit number m, and by `top`
+abbrev pub within : ℕ → ℕ → ℕ → Ended → Type 0
+within p m top (ended.At q) = (p ≤ q) × (q ≤ m) × (q ≤ top)
+within p m top ended.Lost = Unit {0}
 
 -- where what the definitions read ends, as the code answers it
 abbrev pub endOf : {A : Type 0} → Read A → Ended

@@ -11,6 +11,7 @@ ghost use mathlib.Core.Path.{_≡_};
 ghost use Prim.Native.Nat.{ℕ, _+_, _*_, _^_, _≤_, _<_};
 ghost use mathlib.Core.Bool.{Bool, true};
 ghost use mathlib.Core.List.{List};
+ghost use lib.ListN.{length};
 ghost use Rattle.meaning.specs.Values.{Kind, kindNumber};
 ghost use Rattle.meaning.specs.Sheets.{Sheet, Table, holds};
 ghost use Rattle.meaning.specs.Reading.{content, contents, padding, row, readSession, readRows};
@@ -31,7 +32,7 @@ pub enum Ended {
 // A content of a kind at bit number p.
 pub fn content_at(s: &[u8], p: usize, kind: u8) -> ContentRead
     requires { ⌜ p ≤ 2 ^ 32 ⌝ }
-    ensures { λ r. ⌜ endedBy p (p + 65) r × ((k : Kind) → kindNumber k ≡ kind → r ≡ contentFound (content k (now (s .entry)) p)) ⌝ }
+    ensures { λ r. ⌜ endedBy p (p + 65) (length (now (s .entry)) * 8) r × ((k : Kind) → kindNumber k ≡ kind → r ≡ contentFound (content k (now (s .entry)) p)) ⌝ }
 {
     if s.len() <= p / 8 {
         return ContentRead::Lost;
@@ -60,8 +61,8 @@ pub fn contents_at(
     present: &mut [u8; 24],
     values: &mut [u64; 24],
 ) -> Ended
-    requires { ⌜ (from ≤ 2 ^ 31) × (n ≤ 16) × (first + n ≤ 24) × Cells (now present) (now values) ⌝ }
-    ensures { λ r. ⌜ Cells (now (present .exit)) (now (values .exit)) × within from (from + 65 * n) r × ((f : ℕ → Bool) (ks : List Kind) → Fields there first n (now (kinds .entry)) f ks → ContentsRead first n (held (now (present .entry)) (now (values .entry))) (held (now (present .exit)) (now (values .exit))) (contents f 0 ks (now (s .entry)) from) r) ⌝ }
+    requires { ⌜ (from ≤ 2 ^ 31) × (from ≤ length (now s) * 8) × (n ≤ 16) × (first + n ≤ 24) × Cells (now present) (now values) ⌝ }
+    ensures { λ r. ⌜ Cells (now (present .exit)) (now (values .exit)) × within from (from + 65 * n) (length (now (s .entry)) * 8) r × ((f : ℕ → Bool) (ks : List Kind) → Fields there first n (now (kinds .entry)) f ks → ContentsRead first n (held (now (present .entry)) (now (values .entry))) (held (now (present .exit)) (now (values .exit))) (contents f 0 ks (now (s .entry)) from) r) ⌝ }
 {
     let mut p = from;
     let mut c: usize = 0;
@@ -94,8 +95,8 @@ pub fn contents_at(
 
 // The bit number after the zero bits that fill the byte; a bit among them that is 1 is not of the form.
 fn padded(s: &[u8], p: usize) -> Ended
-    requires { ⌜ p ≤ 2 ^ 32 ⌝ }
-    ensures { λ r. ⌜ (r ≡ endOf (padding (now (s .entry)) p)) × within p (p + 7) r ⌝ }
+    requires { ⌜ (p ≤ 2 ^ 32) × (p ≤ length (now s) * 8) ⌝ }
+    ensures { λ r. ⌜ (r ≡ endOf (padding (now (s .entry)) p)) × within p (p + 7) (length (now (s .entry)) * 8) r ⌝ }
 {
     let w = (8 - p % 8) % 8;
     if peek(s, p, w) == 0 {
@@ -114,8 +115,8 @@ pub fn row_at(
     present: &mut [u8; 24],
     values: &mut [u64; 24],
 ) -> Ended
-    requires { ⌜ (from ≤ 2 ^ 31) × (n ≤ 16) × Cells (now present) (now values) ⌝ }
-    ensures { λ r. ⌜ Cells (now (present .exit)) (now (values .exit)) × within from (from + 65 * n + 7) r × ((sheet : Sheet) (t : Table) → Fields there 0 n (now (kinds .entry)) (holds t) (sheet .columns) → RowRead n (held (now (present .entry)) (now (values .entry))) (held (now (present .exit)) (now (values .exit))) (row sheet t (now (s .entry)) from) r) ⌝ }
+    requires { ⌜ (from ≤ 2 ^ 31) × (from ≤ length (now s) * 8) × (n ≤ 16) × Cells (now present) (now values) ⌝ }
+    ensures { λ r. ⌜ Cells (now (present .exit)) (now (values .exit)) × within from (from + 65 * n + 7) (length (now (s .entry)) * 8) r × ((sheet : Sheet) (t : Table) → Fields there 0 n (now (kinds .entry)) (holds t) (sheet .columns) → RowRead n (held (now (present .entry)) (now (values .entry))) (held (now (present .exit)) (now (values .exit))) (row sheet t (now (s .entry)) from) r) ⌝ }
 {
     let end = contents_at(s, from, there, 0, n, kinds, present, values);
     let Ended::At(p) = end else {
@@ -156,7 +157,7 @@ pub fn are_rows(
     values: &mut [u64; 24],
 ) -> bool
     requires { ⌜ (n ≤ 16) × Cells (now present) (now values) ⌝ }
-    ensures { λ r. ⌜ Cells (now (present .exit)) (now (values .exit)) × ((sheet : Sheet) (t : Table) → Fields there 0 n (now (kinds .entry)) (holds t) (sheet .columns) → RowsRead n (held (now (present .entry)) (now (values .entry))) (held (now (present .exit)) (now (values .exit))) (readRows sheet t (now (s .entry))) r) ⌝ }
+    ensures { λ r. ⌜ Cells (now (present .exit)) (now (values .exit)) × (r ≡ true → length (now (s .entry)) ≤ 65536) × ((sheet : Sheet) (t : Table) → Fields there 0 n (now (kinds .entry)) (holds t) (sheet .columns) → RowsRead n (held (now (present .entry)) (now (values .entry))) (held (now (present .exit)) (now (values .exit))) (readRows sheet t (now (s .entry))) r) ⌝ }
 {
     if 65536 < s.len() {
         return false;

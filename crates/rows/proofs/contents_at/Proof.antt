@@ -15,13 +15,13 @@ use Rattle.rows.proofs.contents_at.Tie as tie
 
 abbrev Inv-loop : tie.InvT-loop
 Inv-loop s from there first n kinds present₀ values₀ p₀ c₀ present values p c =
-    (c ≤ n) × (from ≤ p) × (p ≤ from + 65 * c) × Cells present values × ((f : ℕ → Bool) (ks : List Kind) → Fields there first n kinds f ks → Going f ks s from first c p (held present₀ values₀) (held present values))
+    (c ≤ n) × (from ≤ p) × (p ≤ from + 65 * c) × (p ≤ length s * 8) × Cells present values × ((f : ℕ → Bool) (ks : List Kind) → Fields there first n kinds f ks → Going f ks s from first c p (held present₀ values₀) (held present values))
 
 abbrev μ-loop : tie.MeasureT-loop
 μ-loop s from there first n kinds present₀ values₀ p₀ c₀ present values p c = n - c
 
 loop-holds : tie.Need-loop-holds Inv-loop μ-loop
-loop-holds c = (omega arith, omega arith, omega arith, c .before .pre .3, λ f ks F. going-starts f ks _ _ _ _)
+loop-holds c = (omega arith, omega arith, omega arith, omega arith, c .before .pre .4, λ f ks F. going-starts f ks _ _ _ _)
 
 add-v : tie.Need-add-v Inv-loop μ-loop
 add-v c = search needs
@@ -45,7 +45,7 @@ enum-told : tie.Need-enum-told Inv-loop μ-loop
 enum-told c = search needs
 
 returns : tie.Need-returns Inv-loop μ-loop
-returns c = (c .before .before .before .before .before .before .loop .inv .3, tt, λ f ks F. going-stops _ _ _ _ f ks F _ _ _ _ _ _ (c .before .before .before .before .before .before .loop .inv .4 f ks F) (c .before .before .before .before .before .loop-test .taken) (omega arith) (c .before .before .before .before .if1 .taken) (c .before .before .content-at .ensures .1) _ (c .enum-told .given .1))
+returns c = (c .before .before .before .before .before .before .loop .inv .4, tt, λ f ks F. going-stops _ _ _ _ f ks F _ _ _ _ _ _ (c .before .before .before .before .before .before .loop .inv .5 f ks F) (c .before .before .before .before .before .loop-test .taken) (omega arith) (c .before .before .before .before .if1 .taken) (c .before .before .content-at .ensures .1) _ (c .enum-told .given .1))
 
 add-c : tie.Need-add-c Inv-loop μ-loop
 add-c c = search needs
@@ -62,8 +62,8 @@ loop-less c = search needs
 loop-again : tie.Need-loop-again Inv-loop μ-loop
 loop-again c =
     let room : c .before .before .before .before .before .before .before .before .before .before .before .args .first + c .before .before .before .before .before .before .before .before .before .loop .c < length (c .before .before .before .before .before .before .before .before .before .loop .present) = omega arith in
-    let small = ends-by _ _ (c .before .before .before .got .given .1) (c .before .before .before .before .before .content-at .ensures .0) in
-    (omega arith, omega arith, omega arith, (search needs, search needs), λ f ks F. going-reads _ _ _ _ f ks F _ _ _ _ _ _ (c .before .before .before .before .before .before .before .before .before .loop .inv .4 f ks F) (c .before .before .before .before .before .before .before .before .loop-test .taken) (omega arith) (c .before .before .before .before .before .before .before .if1 .taken) (c .before .before .before .before .before .content-at .ensures .1) (c .before .before .before .got .given .1) (sets-null (c .before .before .before .before .before .before .before .before .before .loop .present) (c .before .before .before .before .before .before .before .before .before .loop .values) _ room (c .enum-told2 .given .1)))
+    let small = ends-by _ _ _ (c .before .before .before .got .given .1) (c .before .before .before .before .before .content-at .ensures .0) in
+    (omega arith, omega arith, omega arith, omega arith, (search needs, search needs), λ f ks F. going-reads _ _ _ _ f ks F _ _ _ _ _ _ (c .before .before .before .before .before .before .before .before .before .loop .inv .5 f ks F) (c .before .before .before .before .before .before .before .before .loop-test .taken) (omega arith) (c .before .before .before .before .before .before .before .if1 .taken) (c .before .before .before .before .before .content-at .ensures .1) (c .before .before .before .got .given .1) (sets-null (c .before .before .before .before .before .before .before .before .before .loop .present) (c .before .before .before .before .before .before .before .before .before .loop .values) _ room (c .enum-told2 .given .1)))
 
 enum-known-x : tie.Need-enum-known-x Inv-loop μ-loop
 enum-known-x c = search needs
@@ -84,8 +84,8 @@ loop-again-2 : tie.Need-loop-again-2 Inv-loop μ-loop
 loop-again-2 c =
     let room : c .before .before .before .before .before .before .before .before .before .before .before .before .args .first + c .before .before .before .before .before .before .before .before .before .before .loop .c < length (c .before .before .before .before .before .before .before .before .before .before .loop .present) = omega arith in
     let place : c .before .before .before .before .before .before .before .before .before .before .before .before .args .first + c .before .before .before .before .before .before .before .before .before .before .loop .c < length (c .before .before .before .before .before .before .before .before .before .before .loop .values) = omega arith in
-    let small = ends-by _ _ (c .before .before .before .before .got .given .1) (c .before .before .before .before .before .before .content-at .ensures .0) in
-    (omega arith, omega arith, omega arith, (search needs, search needs), λ f ks F. going-reads _ _ _ _ f ks F _ _ _ _ _ _ (c .before .before .before .before .before .before .before .before .before .before .loop .inv .4 f ks F) (c .before .before .before .before .before .before .before .before .before .loop-test .taken) (omega arith) (c .before .before .before .before .before .before .before .before .if1 .taken) (c .before .before .before .before .before .before .content-at .ensures .1) (c .before .before .before .before .got .given .1) (sets-value (c .before .before .before .before .before .before .before .before .before .before .loop .present) (c .before .before .before .before .before .before .before .before .before .before .loop .values) _ _ room place (c .before .x .given .1)))
+    let small = ends-by _ _ _ (c .before .before .before .before .got .given .1) (c .before .before .before .before .before .before .content-at .ensures .0) in
+    (omega arith, omega arith, omega arith, omega arith, (search needs, search needs), λ f ks F. going-reads _ _ _ _ f ks F _ _ _ _ _ _ (c .before .before .before .before .before .before .before .before .before .before .loop .inv .5 f ks F) (c .before .before .before .before .before .before .before .before .before .loop-test .taken) (omega arith) (c .before .before .before .before .before .before .before .before .if1 .taken) (c .before .before .before .before .before .before .content-at .ensures .1) (c .before .before .before .before .got .given .1) (sets-value (c .before .before .before .before .before .before .before .before .before .before .loop .present) (c .before .before .before .before .before .before .before .before .before .before .loop .values) _ _ room place (c .before .x .given .1)))
 
 element-write-present-3 : tie.Need-element-write-present-3 Inv-loop μ-loop
 element-write-present-3 c = search needs
@@ -99,10 +99,10 @@ loop-less-3 c = search needs
 loop-again-3 : tie.Need-loop-again-3 Inv-loop μ-loop
 loop-again-3 c =
     let room : c .before .before .before .before .args .first + c .before .before .loop .c < length (c .before .before .loop .present) = omega arith in
-    (omega arith, omega arith, omega arith, (search needs, search needs), λ f ks F. going-skips _ _ _ _ f ks F _ _ _ _ _ _ (c .before .before .loop .inv .4 f ks F) (c .before .loop-test .taken) (omega arith) (c .if1 .left) (sets-null (c .before .before .loop .present) (c .before .before .loop .values) _ room refl))
+    (omega arith, omega arith, omega arith, omega arith, (search needs, search needs), λ f ks F. going-skips _ _ _ _ f ks F _ _ _ _ _ _ (c .before .before .loop .inv .5 f ks F) (c .before .loop-test .taken) (omega arith) (c .if1 .left) (sets-null (c .before .before .loop .present) (c .before .before .loop .values) _ room refl))
 
 returns-2 : tie.Need-returns-2 Inv-loop μ-loop
-returns-2 c = (c .before .loop .inv .3, (omega arith, omega arith), λ f ks F. going-done _ _ _ _ f ks F _ _ _ _ _ _ (c .before .loop .inv .4 f ks F) (omega arith))
+returns-2 c = (c .before .loop .inv .4, (omega arith, omega arith, omega arith), λ f ks F. going-done _ _ _ _ f ks F _ _ _ _ _ _ (c .before .loop .inv .5 f ks F) (omega arith))
 
 pub contents-at-spec : {M : Type 1} → statement M
 contents-at-spec =

@@ -15,7 +15,7 @@ add-t8 : tie.Need-add-t8
 add-t8 c = search needs
 
 returns : tie.Need-returns
-returns c = (padded-zero _ _ (c .before .peek .ensures) (c .if1 .taken), (omega arith, omega arith))
+returns c = (padded-zero _ _ (c .before .peek .ensures) (c .if1 .taken), (omega arith, omega arith, omega arith))
 
 returns-2 : tie.Need-returns-2
 returns-2 c = (padded-one _ _ (c .before .peek .ensures) (c .if1 .left), tt)

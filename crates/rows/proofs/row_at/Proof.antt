@@ -20,13 +20,13 @@ returns c = (c .before .before .contents-at .ensures .0, tt, λ sheet t F. row-l
 
 padded-requires : tie.Need-padded-requires
 padded-requires c κs =
-    let w = ends-within _ _ (c .before .end .given .1) (c .before .before .before .contents-at .ensures .1) in
+    let w = ends-within _ _ _ (c .before .end .given .1) (c .before .before .before .contents-at .ensures .1) in
     omega arith
 
 returns-2 : tie.Need-returns-2
 returns-2 c =
-    let w = ends-within _ _ (c .before .before .end .given .1) (c .before .before .before .before .contents-at .ensures .1) in
-    (c .before .before .before .before .contents-at .ensures .0, within-more _ _ _ _ (c .padded .result) (w .0) (omega arith) (c .padded .ensures .1), λ sheet t F. row-ends _ _ sheet t _ _ _ _ (c .before .before .before .before .contents-at .ensures .2 (holds t) (sheet .columns) F) (c .before .before .end .given .1) (c .padded .ensures .0))
+    let w = ends-within _ _ _ (c .before .before .end .given .1) (c .before .before .before .before .contents-at .ensures .1) in
+    (c .before .before .before .before .contents-at .ensures .0, within-more _ _ _ _ _ (c .padded .result) (w .0) (omega arith) (c .padded .ensures .1), λ sheet t F. row-ends _ _ sheet t _ _ _ _ (c .before .before .before .before .contents-at .ensures .2 (holds t) (sheet .columns) F) (c .before .before .end .given .1) (c .padded .ensures .0))
 
 pub row-at-spec : {M : Type 1} → statement M
 row-at-spec =

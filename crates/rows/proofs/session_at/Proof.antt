@@ -20,7 +20,7 @@ returns c = (c .before .before .contents-at .ensures .0, λ sheet F. session-los
 
 padded-requires : tie.Need-padded-requires
 padded-requires c κs =
-    let w = ends-within _ _ (c .before .end .given .1) (c .before .before .before .contents-at .ensures .1) in
+    let w = ends-within _ _ _ (c .before .end .given .1) (c .before .before .before .contents-at .ensures .1) in
     omega arith
 
 enum-known-filled : tie.Need-enum-known-filled

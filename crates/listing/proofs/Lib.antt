@@ -1,0 +1,4 @@
+pub mod PlanLaws
+pub mod RowLaws
+pub mod ReplyLaws
+pub mod ReadyLaws
