@@ -46,7 +46,7 @@ over-more bytes out list m l =
 
 -- what the variables hold of a row and a session is what the definitions hold of them
 module _ (s plan : List ℕ) (n there columns : ℕ) (kinds : List ℕ) (sheet : Sheet) (t command : ℕ) (key now : Contents) (small : columns ≤ 16) (g : Ready s plan n there columns kinds sheet t command key now)
-  (q : ℕ) (x after : Contents) (h : RowHeld columns q x now after) where
+    (q : ℕ) (x after : Contents) (h : RowHeld columns q x now after) where
   pub ready-on : Ready s plan n there columns kinds sheet t command key after
   ready-on = record { fields = g .fields; kind = g .kind; laid = g .laid; others = λ v l. h .others v l ∙ g .others v l }
 

@@ -132,7 +132,15 @@ fn list(
 }
 
 // Lists for a table and a command that are there, into a buffer that is long enough: 15, or the admitted rows.
-fn list_for(s: &[u8], d: Directory, t: usize, command: u64, session: &[u8], rows: &[u8], out: &mut [u8]) -> Listed
+fn list_for(
+    s: &[u8],
+    d: Directory,
+    t: usize,
+    command: u64,
+    session: &[u8],
+    rows: &[u8],
+    out: &mut [u8],
+) -> Listed
     requires { ⌜ (t < 16) × (length (now rows) ≤ length (now out)) ⌝ }
     ensures { λ r. ⌜ ((sheet : Sheet) → length (now (s .entry)) ≤ 16384 → Described (now (s .entry)) sheet d → SheetAllowed sheet → t < length (sheet .tables) → Lists (askedOf sheet t command (now (session .entry)) (now (rows .entry))) (now (out .entry)) r (now (out .exit))) ⌝ }
 {
@@ -149,14 +157,33 @@ fn list_for(s: &[u8], d: Directory, t: usize, command: u64, session: &[u8], rows
         if are_rows(rows, there, columns, &kinds, &mut present, &mut values) {
             let mut plan = [0u32; 1168];
             let n = lay_policies(s, d, t, command, &mut plan);
-            return list(s, &plan, n, rows, there, columns, &kinds, &mut present, &mut values, out);
+            return list(
+                s,
+                &plan,
+                n,
+                rows,
+                there,
+                columns,
+                &kinds,
+                &mut present,
+                &mut values,
+                out,
+            );
         }
     }
     Listed::Refused(15)
 }
 
 // Lists of an accepted sheet: 12 and 14, then as above.
-fn listed(s: &[u8], d: Directory, table: u32, command: u32, session: &[u8], rows: &[u8], out: &mut [u8]) -> Listed
+pub fn listed(
+    s: &[u8],
+    d: Directory,
+    table: u32,
+    command: u32,
+    session: &[u8],
+    rows: &[u8],
+    out: &mut [u8],
+) -> Listed
     ensures { λ r. ⌜ (Found (now (s .entry)) d → ListingReply (now (s .entry)) table command (now (session .entry)) (now (rows .entry)) (now (out .entry)) r (now (out .exit))) ⌝ }
 {
     let facts = d.facts;
@@ -175,4 +202,3 @@ fn listed(s: &[u8], d: Directory, table: u32, command: u32, session: &[u8], rows
     }
     list_for(s, d, table as usize, command as u64, session, rows, out)
 }
-

@@ -47,13 +47,18 @@ loop-again c =
     let step = c .lay-policy .ensures in
     let near = step .1 in
     let u = c .before .before .before .before .before .before .before .up-to .ensures in
-    let top = u .0 in
-    (omega arith, omega arith, step .0, c .before .before .before .before .before .before .loop .inv .3, λ sheet l D A h.
-    let n = D .policies in let few = A .policies in let same = u .1 (omega arith) in
-    let i : c .before .before .before .before .before .before .loop .p < length (sheet .policies) = omega arith in
-    let size = c .before .before .before .before .before .before .loop .inv .3 in
-    let place : c .before .before .before .before .before .before .loop .p < length (c .before .before .before .before .before .before .before .before .before .before .args .d .policy) = omega arith in
-    policies-more sheet (c .before .before .before .before .before .before .before .before .before .before .args .t) (c .before .before .before .before .before .before .before .before .before .before .args .command) (c .before .before .before .before .before .before .before .before .before .before .args .s .now) (c .before .before .before .before .before .before .loop .p) (c .before .before .before .before .before .before .loop .at) (c .before .before .before .before .before .before .loop .plan) i (c .before .before .before .before .before .before .loop .inv .4 sheet l D A h) (c .lay-policy .result) (c .lay-policy .last .1 .1 .0) (c .before .before .before .before .applies .ensures sheet D h i) (c .before .before .before .if1 .taken) (step .2 (factsOf sheet) (policyAt sheet (c .before .before .before .before .before .before .loop .p)) l (few-clauses sheet _ A) (policy-there _ _ _ (c .before .before .before .before .before .before .before .before .before .before .args .d .policy) (c .before .before .before .before .before .before .loop .p) place (D .policy (c .before .before .before .before .before .before .loop .p) i))))
+    let top = u .0 in (
+      omega arith,
+      omega arith,
+      step .0,
+      c .before .before .before .before .before .before .loop .inv .3,
+      λ sheet l D A h.
+          let n = D .policies in let few = A .policies in let same = u .1 (omega arith) in
+          let i : c .before .before .before .before .before .before .loop .p < length (sheet .policies) = omega arith in
+          let size = c .before .before .before .before .before .before .loop .inv .3 in
+          let place : c .before .before .before .before .before .before .loop .p < length (c .before .before .before .before .before .before .before .before .before .before .args .d .policy) = omega arith in
+          policies-more sheet (c .before .before .before .before .before .before .before .before .before .before .args .t) (c .before .before .before .before .before .before .before .before .before .before .args .command) (c .before .before .before .before .before .before .before .before .before .before .args .s .now) (c .before .before .before .before .before .before .loop .p) (c .before .before .before .before .before .before .loop .at) (c .before .before .before .before .before .before .loop .plan) i (c .before .before .before .before .before .before .loop .inv .4 sheet l D A h) (c .lay-policy .result) (c .lay-policy .last .1 .1 .0) (c .before .before .before .before .applies .ensures sheet D h i) (c .before .before .before .if1 .taken) (step .2 (factsOf sheet) (policyAt sheet (c .before .before .before .before .before .before .loop .p)) l (few-clauses sheet _ A) (policy-there _ _ _ (c .before .before .before .before .before .before .before .before .before .before .args .d .policy) (c .before .before .before .before .before .before .loop .p) place (D .policy (c .before .before .before .before .before .before .loop .p) i))),
+    )
 
 add-p-2 : tie.Need-add-p-2 Inv-loop μ-loop
 add-p-2 c = search needs
@@ -64,11 +69,16 @@ loop-less-2 c = search needs
 loop-again-2 : tie.Need-loop-again-2 Inv-loop μ-loop
 loop-again-2 c =
     let u = c .before .before .before .before .up-to .ensures in
-    let top = u .0 in
-    (omega arith, omega arith, c .before .before .before .loop .inv .2, c .before .before .before .loop .inv .3, λ sheet l D A h.
-    let n = D .policies in let few = A .policies in let same = u .1 (omega arith) in
-    let i : c .before .before .before .loop .p < length (sheet .policies) = omega arith in
-    policies-skip sheet (c .before .before .before .before .before .before .before .args .t) (c .before .before .before .before .before .before .before .args .command) (c .before .before .before .before .before .before .before .args .s .now) (c .before .before .before .loop .p) (c .before .before .before .loop .at) (c .before .before .before .loop .plan) i (c .before .before .before .loop .inv .4 sheet l D A h) (c .before .applies .ensures sheet D h i) (c .if1 .left))
+    let top = u .0 in (
+      omega arith,
+      omega arith,
+      c .before .before .before .loop .inv .2,
+      c .before .before .before .loop .inv .3,
+      λ sheet l D A h.
+          let n = D .policies in let few = A .policies in let same = u .1 (omega arith) in
+          let i : c .before .before .before .loop .p < length (sheet .policies) = omega arith in
+          policies-skip sheet (c .before .before .before .before .before .before .before .args .t) (c .before .before .before .before .before .before .before .args .command) (c .before .before .before .before .before .before .before .args .s .now) (c .before .before .before .loop .p) (c .before .before .before .loop .at) (c .before .before .before .loop .plan) i (c .before .before .before .loop .inv .4 sheet l D A h) (c .before .applies .ensures sheet D h i) (c .if1 .left),
+    )
 
 returns : tie.Need-returns Inv-loop μ-loop
 returns c =

@@ -66,20 +66,34 @@ loop-less c = let w = ends-within _ _ _ (c .before .before .before .before .befo
 
 loop-again : tie.Need-loop-again Inv-loop μ-loop
 loop-again c =
-    let w = ends-within _ _ _ (c .before .before .before .before .before .before .before .before .before .before .end .given .1) (c .before .before .before .before .before .before .before .before .before .before .before .before .row-at .ensures .1) in 
-    (omega arith, omega arith, omega arith, c .before .before .copy .kept .1 .1 .1 .0 ∙ c .before .before .before .before .before .before .before .before .before .before .before .before .before .before .before .before .loop .inv .3, c .before .before .before .before .before .before .before .before .before .before .before .before .row-at .ensures .0, λ sheet t command key rs q R is. let g = c .before .before .before .before .before .before .before .before .before .before .before .before .before .before .before .before .loop .inv .5 sheet t command key rs q R is in 
-    (ready-next sheet t command key (c .before .before .before .before .before .before .before .before .before .before .before .before .before .before .before .before .before .before .before .before .args .rows .now) (c .before .before .before .before .before .before .before .before .before .before .before .before .before .before .before .before .before .before .before .before .args .out .now) rs q (c .before .before .before .before .before .before .before .before .before .before .before .before .before .before .before .before .before .before .before .before .pre .3) is (c .before .before .before .before .before .before .before .before .before .before .before .before .before .before .before .before .loop .p) (c .before .before .before .before .before .before .before .before .before .before .before .before .before .before .before .before .loop .at) (c .before .before .before .before .before .before .before .before .before .before .before .before .before .before .before .before .loop .count) (c .before .before .before .before .before .before .before .before .before .before .before .before .before .before .before .before .loop .out) (g .1) (c .before .before .before .before .before .before .before .before .before .before .before .before .before .before .before .before .before .before .before .before .args .columns) (c .before .before .before .before .before .before .before .before .before .before .before .before .before .before .before .loop-test .taken) (held (c .before .before .before .before .before .before .before .before .before .before .before .before .before .before .before .before .loop .present) (c .before .before .before .before .before .before .before .before .before .before .before .before .before .before .before .before .loop .values)) (held (c .before .before .before .before .before .before .before .before .before .before .before .before .row-at .last .1 .1 .1 .1 .1 .0) (c .before .before .before .before .before .before .before .before .before .before .before .before .row-at .last .1 .1 .1 .1 .1 .1 .0)) (c .before .before .before .before .before .before .before .before .before .before .before .before .row-at .result) (c .before .before .before .before .before .before .before .before .before .before .before .before .row-at .ensures .2 sheet (tableAt sheet t) (g .0 .fields)) (c .before .before .before .before .before .before .before .before .before .before .end .given .1) (c .before .before .before .before .before .before .before .before .if1 .left) (c .before .before .before .before .before .before .before .before .before .before .before .before .before .before .before .before .before .before .before .before .args .s .now) (c .before .before .before .before .before .before .before .before .before .before .before .before .before .before .before .before .before .before .before .before .args .plan .now) (c .before .before .before .before .before .before .before .before .before .before .before .before .before .before .before .before .before .before .before .before .args .n) (c .before .before .before .before .before .before .before .before .before .before .before .before .before .before .before .before .before .before .before .before .args .there) (c .before .before .before .before .before .before .before .before .before .before .before .before .before .before .before .before .before .before .before .before .args .kinds .now) (c .before .before .before .before .before .before .before .before .before .before .before .before .before .before .before .before .before .before .before .before .pre .2) (g .0),
-    subst (Listing sheet t command key _ _ _ _ _) (sym (c .before .before .copy .ensures)) (listing-keeps sheet t command key (c .before .before .before .before .before .before .before .before .before .before .before .before .before .before .before .before .before .before .before .before .args .rows .now) (c .before .before .before .before .before .before .before .before .before .before .before .before .before .before .before .before .before .before .before .before .args .out .now) rs q (c .before .before .before .before .before .before .before .before .before .before .before .before .before .before .before .before .before .before .before .before .pre .3) is (c .before .before .before .before .before .before .before .before .before .before .before .before .before .before .before .before .loop .p) (c .before .before .before .before .before .before .before .before .before .before .before .before .before .before .before .before .loop .at) (c .before .before .before .before .before .before .before .before .before .before .before .before .before .before .before .before .loop .count) (c .before .before .before .before .before .before .before .before .before .before .before .before .before .before .before .before .loop .out) (g .1) (c .before .before .before .before .before .before .before .before .before .before .before .before .before .before .before .before .before .before .before .before .args .columns) (c .before .before .before .before .before .before .before .before .before .before .before .before .before .before .before .loop-test .taken) (held (c .before .before .before .before .before .before .before .before .before .before .before .before .before .before .before .before .loop .present) (c .before .before .before .before .before .before .before .before .before .before .before .before .before .before .before .before .loop .values)) (held (c .before .before .before .before .before .before .before .before .before .before .before .before .row-at .last .1 .1 .1 .1 .1 .0) (c .before .before .before .before .before .before .before .before .before .before .before .before .row-at .last .1 .1 .1 .1 .1 .1 .0)) (c .before .before .before .before .before .before .before .before .before .before .before .before .row-at .result) (c .before .before .before .before .before .before .before .before .before .before .before .before .row-at .ensures .2 sheet (tableAt sheet t) (g .0 .fields)) (c .before .before .before .before .before .before .before .before .before .before .end .given .1) (c .before .before .before .before .before .before .before .before .if1 .left) (c .before .before .before .before .before .before .before .before .before .before .before .before .before .before .before .before .before .before .before .before .args .s .now) (c .before .before .before .before .before .before .before .before .before .before .before .before .before .before .before .before .before .before .before .before .args .plan .now) (c .before .before .before .before .before .before .before .before .before .before .before .before .before .before .before .before .before .before .before .before .args .n) (c .before .before .before .before .before .before .before .before .before .before .before .before .before .before .before .before .before .before .before .before .args .there) (c .before .before .before .before .before .before .before .before .before .before .before .before .before .before .before .before .before .before .before .before .args .kinds .now) (c .before .before .before .before .before .before .before .before .before .before .before .before .before .before .before .before .before .before .before .before .pre .2) (g .0) (c .before .before .before .before .before .is-admitted .ensures (kindOf sheet) (g .0 .kind)) (omega arith) (c .before .before .before .before .if2 .taken))))
+    let w = ends-within _ _ _ (c .before .before .before .before .before .before .before .before .before .before .end .given .1) (c .before .before .before .before .before .before .before .before .before .before .before .before .row-at .ensures .1) in (
+      omega arith,
+      omega arith,
+      omega arith,
+      c .before .before .copy .kept .1 .1 .1 .0 ∙ c .before .before .before .before .before .before .before .before .before .before .before .before .before .before .before .before .loop .inv .3,
+      c .before .before .before .before .before .before .before .before .before .before .before .before .row-at .ensures .0,
+      λ sheet t command key rs q R is. let g = c .before .before .before .before .before .before .before .before .before .before .before .before .before .before .before .before .loop .inv .5 sheet t command key rs q R is in (
+        ready-next sheet t command key (c .before .before .before .before .before .before .before .before .before .before .before .before .before .before .before .before .before .before .before .before .args .rows .now) (c .before .before .before .before .before .before .before .before .before .before .before .before .before .before .before .before .before .before .before .before .args .out .now) rs q (c .before .before .before .before .before .before .before .before .before .before .before .before .before .before .before .before .before .before .before .before .pre .3) is (c .before .before .before .before .before .before .before .before .before .before .before .before .before .before .before .before .loop .p) (c .before .before .before .before .before .before .before .before .before .before .before .before .before .before .before .before .loop .at) (c .before .before .before .before .before .before .before .before .before .before .before .before .before .before .before .before .loop .count) (c .before .before .before .before .before .before .before .before .before .before .before .before .before .before .before .before .loop .out) (g .1) (c .before .before .before .before .before .before .before .before .before .before .before .before .before .before .before .before .before .before .before .before .args .columns) (c .before .before .before .before .before .before .before .before .before .before .before .before .before .before .before .loop-test .taken) (held (c .before .before .before .before .before .before .before .before .before .before .before .before .before .before .before .before .loop .present) (c .before .before .before .before .before .before .before .before .before .before .before .before .before .before .before .before .loop .values)) (held (c .before .before .before .before .before .before .before .before .before .before .before .before .row-at .last .1 .1 .1 .1 .1 .0) (c .before .before .before .before .before .before .before .before .before .before .before .before .row-at .last .1 .1 .1 .1 .1 .1 .0)) (c .before .before .before .before .before .before .before .before .before .before .before .before .row-at .result) (c .before .before .before .before .before .before .before .before .before .before .before .before .row-at .ensures .2 sheet (tableAt sheet t) (g .0 .fields)) (c .before .before .before .before .before .before .before .before .before .before .end .given .1) (c .before .before .before .before .before .before .before .before .if1 .left) (c .before .before .before .before .before .before .before .before .before .before .before .before .before .before .before .before .before .before .before .before .args .s .now) (c .before .before .before .before .before .before .before .before .before .before .before .before .before .before .before .before .before .before .before .before .args .plan .now) (c .before .before .before .before .before .before .before .before .before .before .before .before .before .before .before .before .before .before .before .before .args .n) (c .before .before .before .before .before .before .before .before .before .before .before .before .before .before .before .before .before .before .before .before .args .there) (c .before .before .before .before .before .before .before .before .before .before .before .before .before .before .before .before .before .before .before .before .args .kinds .now) (c .before .before .before .before .before .before .before .before .before .before .before .before .before .before .before .before .before .before .before .before .pre .2) (g .0),
+        subst (Listing sheet t command key _ _ _ _ _) (sym (c .before .before .copy .ensures)) (listing-keeps sheet t command key (c .before .before .before .before .before .before .before .before .before .before .before .before .before .before .before .before .before .before .before .before .args .rows .now) (c .before .before .before .before .before .before .before .before .before .before .before .before .before .before .before .before .before .before .before .before .args .out .now) rs q (c .before .before .before .before .before .before .before .before .before .before .before .before .before .before .before .before .before .before .before .before .pre .3) is (c .before .before .before .before .before .before .before .before .before .before .before .before .before .before .before .before .loop .p) (c .before .before .before .before .before .before .before .before .before .before .before .before .before .before .before .before .loop .at) (c .before .before .before .before .before .before .before .before .before .before .before .before .before .before .before .before .loop .count) (c .before .before .before .before .before .before .before .before .before .before .before .before .before .before .before .before .loop .out) (g .1) (c .before .before .before .before .before .before .before .before .before .before .before .before .before .before .before .before .before .before .before .before .args .columns) (c .before .before .before .before .before .before .before .before .before .before .before .before .before .before .before .loop-test .taken) (held (c .before .before .before .before .before .before .before .before .before .before .before .before .before .before .before .before .loop .present) (c .before .before .before .before .before .before .before .before .before .before .before .before .before .before .before .before .loop .values)) (held (c .before .before .before .before .before .before .before .before .before .before .before .before .row-at .last .1 .1 .1 .1 .1 .0) (c .before .before .before .before .before .before .before .before .before .before .before .before .row-at .last .1 .1 .1 .1 .1 .1 .0)) (c .before .before .before .before .before .before .before .before .before .before .before .before .row-at .result) (c .before .before .before .before .before .before .before .before .before .before .before .before .row-at .ensures .2 sheet (tableAt sheet t) (g .0 .fields)) (c .before .before .before .before .before .before .before .before .before .before .end .given .1) (c .before .before .before .before .before .before .before .before .if1 .left) (c .before .before .before .before .before .before .before .before .before .before .before .before .before .before .before .before .before .before .before .before .args .s .now) (c .before .before .before .before .before .before .before .before .before .before .before .before .before .before .before .before .before .before .before .before .args .plan .now) (c .before .before .before .before .before .before .before .before .before .before .before .before .before .before .before .before .before .before .before .before .args .n) (c .before .before .before .before .before .before .before .before .before .before .before .before .before .before .before .before .before .before .before .before .args .there) (c .before .before .before .before .before .before .before .before .before .before .before .before .before .before .before .before .before .before .before .before .args .kinds .now) (c .before .before .before .before .before .before .before .before .before .before .before .before .before .before .before .before .before .before .before .before .pre .2) (g .0) (c .before .before .before .before .before .is-admitted .ensures (kindOf sheet) (g .0 .kind)) (omega arith) (c .before .before .before .before .if2 .taken)),
+      ),
+    )
 
 loop-less-2 : tie.Need-loop-less-2 Inv-loop μ-loop
 loop-less-2 c = let w = ends-within _ _ _ (c .before .before .before .before .before .before .end .given .1) (c .before .before .before .before .before .before .before .before .row-at .ensures .1) in omega arith
 
 loop-again-2 : tie.Need-loop-again-2 Inv-loop μ-loop
 loop-again-2 c =
-    let w = ends-within _ _ _ (c .before .before .before .before .before .before .end .given .1) (c .before .before .before .before .before .before .before .before .row-at .ensures .1) in 
-    (omega arith, omega arith, omega arith, c .before .before .before .before .before .before .before .before .before .before .before .before .loop .inv .3, c .before .before .before .before .before .before .before .before .row-at .ensures .0, λ sheet t command key rs q R is. let g = c .before .before .before .before .before .before .before .before .before .before .before .before .loop .inv .5 sheet t command key rs q R is in 
-    (ready-next sheet t command key (c .before .before .before .before .before .before .before .before .before .before .before .before .before .before .before .before .args .rows .now) (c .before .before .before .before .before .before .before .before .before .before .before .before .before .before .before .before .args .out .now) rs q (c .before .before .before .before .before .before .before .before .before .before .before .before .before .before .before .before .pre .3) is (c .before .before .before .before .before .before .before .before .before .before .before .before .loop .p) (c .before .before .before .before .before .before .before .before .before .before .before .before .loop .at) (c .before .before .before .before .before .before .before .before .before .before .before .before .loop .count) (c .before .before .before .before .before .before .before .before .before .before .before .before .loop .out) (g .1) (c .before .before .before .before .before .before .before .before .before .before .before .before .before .before .before .before .args .columns) (c .before .before .before .before .before .before .before .before .before .before .before .loop-test .taken) (held (c .before .before .before .before .before .before .before .before .before .before .before .before .loop .present) (c .before .before .before .before .before .before .before .before .before .before .before .before .loop .values)) (held (c .before .before .before .before .before .before .before .before .row-at .last .1 .1 .1 .1 .1 .0) (c .before .before .before .before .before .before .before .before .row-at .last .1 .1 .1 .1 .1 .1 .0)) (c .before .before .before .before .before .before .before .before .row-at .result) (c .before .before .before .before .before .before .before .before .row-at .ensures .2 sheet (tableAt sheet t) (g .0 .fields)) (c .before .before .before .before .before .before .end .given .1) (c .before .before .before .before .if1 .left) (c .before .before .before .before .before .before .before .before .before .before .before .before .before .before .before .before .args .s .now) (c .before .before .before .before .before .before .before .before .before .before .before .before .before .before .before .before .args .plan .now) (c .before .before .before .before .before .before .before .before .before .before .before .before .before .before .before .before .args .n) (c .before .before .before .before .before .before .before .before .before .before .before .before .before .before .before .before .args .there) (c .before .before .before .before .before .before .before .before .before .before .before .before .before .before .before .before .args .kinds .now) (c .before .before .before .before .before .before .before .before .before .before .before .before .before .before .before .before .pre .2) (g .0),
-    listing-drops sheet t command key (c .before .before .before .before .before .before .before .before .before .before .before .before .before .before .before .before .args .rows .now) (c .before .before .before .before .before .before .before .before .before .before .before .before .before .before .before .before .args .out .now) rs q (c .before .before .before .before .before .before .before .before .before .before .before .before .before .before .before .before .pre .3) is (c .before .before .before .before .before .before .before .before .before .before .before .before .loop .p) (c .before .before .before .before .before .before .before .before .before .before .before .before .loop .at) (c .before .before .before .before .before .before .before .before .before .before .before .before .loop .count) (c .before .before .before .before .before .before .before .before .before .before .before .before .loop .out) (g .1) (c .before .before .before .before .before .before .before .before .before .before .before .before .before .before .before .before .args .columns) (c .before .before .before .before .before .before .before .before .before .before .before .loop-test .taken) (held (c .before .before .before .before .before .before .before .before .before .before .before .before .loop .present) (c .before .before .before .before .before .before .before .before .before .before .before .before .loop .values)) (held (c .before .before .before .before .before .before .before .before .row-at .last .1 .1 .1 .1 .1 .0) (c .before .before .before .before .before .before .before .before .row-at .last .1 .1 .1 .1 .1 .1 .0)) (c .before .before .before .before .before .before .before .before .row-at .result) (c .before .before .before .before .before .before .before .before .row-at .ensures .2 sheet (tableAt sheet t) (g .0 .fields)) (c .before .before .before .before .before .before .end .given .1) (c .before .before .before .before .if1 .left) (c .before .before .before .before .before .before .before .before .before .before .before .before .before .before .before .before .args .s .now) (c .before .before .before .before .before .before .before .before .before .before .before .before .before .before .before .before .args .plan .now) (c .before .before .before .before .before .before .before .before .before .before .before .before .before .before .before .before .args .n) (c .before .before .before .before .before .before .before .before .before .before .before .before .before .before .before .before .args .there) (c .before .before .before .before .before .before .before .before .before .before .before .before .before .before .before .before .args .kinds .now) (c .before .before .before .before .before .before .before .before .before .before .before .before .before .before .before .before .pre .2) (g .0) (c .before .is-admitted .ensures (kindOf sheet) (g .0 .kind)) (c .if2 .left)))
+    let w = ends-within _ _ _ (c .before .before .before .before .before .before .end .given .1) (c .before .before .before .before .before .before .before .before .row-at .ensures .1) in (
+      omega arith,
+      omega arith,
+      omega arith,
+      c .before .before .before .before .before .before .before .before .before .before .before .before .loop .inv .3,
+      c .before .before .before .before .before .before .before .before .row-at .ensures .0,
+      λ sheet t command key rs q R is. let g = c .before .before .before .before .before .before .before .before .before .before .before .before .loop .inv .5 sheet t command key rs q R is in (
+        ready-next sheet t command key (c .before .before .before .before .before .before .before .before .before .before .before .before .before .before .before .before .args .rows .now) (c .before .before .before .before .before .before .before .before .before .before .before .before .before .before .before .before .args .out .now) rs q (c .before .before .before .before .before .before .before .before .before .before .before .before .before .before .before .before .pre .3) is (c .before .before .before .before .before .before .before .before .before .before .before .before .loop .p) (c .before .before .before .before .before .before .before .before .before .before .before .before .loop .at) (c .before .before .before .before .before .before .before .before .before .before .before .before .loop .count) (c .before .before .before .before .before .before .before .before .before .before .before .before .loop .out) (g .1) (c .before .before .before .before .before .before .before .before .before .before .before .before .before .before .before .before .args .columns) (c .before .before .before .before .before .before .before .before .before .before .before .loop-test .taken) (held (c .before .before .before .before .before .before .before .before .before .before .before .before .loop .present) (c .before .before .before .before .before .before .before .before .before .before .before .before .loop .values)) (held (c .before .before .before .before .before .before .before .before .row-at .last .1 .1 .1 .1 .1 .0) (c .before .before .before .before .before .before .before .before .row-at .last .1 .1 .1 .1 .1 .1 .0)) (c .before .before .before .before .before .before .before .before .row-at .result) (c .before .before .before .before .before .before .before .before .row-at .ensures .2 sheet (tableAt sheet t) (g .0 .fields)) (c .before .before .before .before .before .before .end .given .1) (c .before .before .before .before .if1 .left) (c .before .before .before .before .before .before .before .before .before .before .before .before .before .before .before .before .args .s .now) (c .before .before .before .before .before .before .before .before .before .before .before .before .before .before .before .before .args .plan .now) (c .before .before .before .before .before .before .before .before .before .before .before .before .before .before .before .before .args .n) (c .before .before .before .before .before .before .before .before .before .before .before .before .before .before .before .before .args .there) (c .before .before .before .before .before .before .before .before .before .before .before .before .before .before .before .before .args .kinds .now) (c .before .before .before .before .before .before .before .before .before .before .before .before .before .before .before .before .pre .2) (g .0),
+        listing-drops sheet t command key (c .before .before .before .before .before .before .before .before .before .before .before .before .before .before .before .before .args .rows .now) (c .before .before .before .before .before .before .before .before .before .before .before .before .before .before .before .before .args .out .now) rs q (c .before .before .before .before .before .before .before .before .before .before .before .before .before .before .before .before .pre .3) is (c .before .before .before .before .before .before .before .before .before .before .before .before .loop .p) (c .before .before .before .before .before .before .before .before .before .before .before .before .loop .at) (c .before .before .before .before .before .before .before .before .before .before .before .before .loop .count) (c .before .before .before .before .before .before .before .before .before .before .before .before .loop .out) (g .1) (c .before .before .before .before .before .before .before .before .before .before .before .before .before .before .before .before .args .columns) (c .before .before .before .before .before .before .before .before .before .before .before .loop-test .taken) (held (c .before .before .before .before .before .before .before .before .before .before .before .before .loop .present) (c .before .before .before .before .before .before .before .before .before .before .before .before .loop .values)) (held (c .before .before .before .before .before .before .before .before .row-at .last .1 .1 .1 .1 .1 .0) (c .before .before .before .before .before .before .before .before .row-at .last .1 .1 .1 .1 .1 .1 .0)) (c .before .before .before .before .before .before .before .before .row-at .result) (c .before .before .before .before .before .before .before .before .row-at .ensures .2 sheet (tableAt sheet t) (g .0 .fields)) (c .before .before .before .before .before .before .end .given .1) (c .before .before .before .before .if1 .left) (c .before .before .before .before .before .before .before .before .before .before .before .before .before .before .before .before .args .s .now) (c .before .before .before .before .before .before .before .before .before .before .before .before .before .before .before .before .args .plan .now) (c .before .before .before .before .before .before .before .before .before .before .before .before .before .before .before .before .args .n) (c .before .before .before .before .before .before .before .before .before .before .before .before .before .before .before .before .args .there) (c .before .before .before .before .before .before .before .before .before .before .before .before .before .before .before .before .args .kinds .now) (c .before .before .before .before .before .before .before .before .before .before .before .before .before .before .before .before .pre .2) (g .0) (c .before .is-admitted .ensures (kindOf sheet) (g .0 .kind)) (c .if2 .left),
+      ),
+    )
 
 same-length-3 : tie.Need-same-length-3 Inv-loop μ-loop
 same-length-3 c = c .before .loop .inv .3
