@@ -1,0 +1,162 @@
+//! Verdicts: dead, isolated and covers beside z3 asked the same.
+
+use super::figures::{by_library, cell, ratio};
+use super::plot::Series;
+use super::report::Report;
+use super::sheets::{self, Leak};
+use super::smt;
+use super::time::{readable, time, Effort, Timing};
+use crate::library::{self, exports};
+use crate::making::random::Random;
+use crate::making::sheets as random_sheets;
+use crate::reading::sheet::Sheet;
+use crate::reading::solve::{clause_covers, is_live};
+use crate::reading::verdicts::{isolation, Isolation};
+use crate::reading::{calls, pack, parse::parse};
+use std::io;
+use std::time::Instant;
+
+/// Seconds that z3 takes for the script, its start taken off.
+fn by_z3(script: &str, repeats: usize) -> Option<(f64, Vec<bool>)> {
+    let timed = |text: &str| {
+        let start = Instant::now();
+        let found = smt::run(text);
+        (start.elapsed().as_secs_f64(), found)
+    };
+    let start = Timing::of((0..3).map(|_| timed("").0).collect()).median;
+    let (whole, found) = timed(&script.repeat(repeats));
+    Some((((whole - start) / repeats as f64).max(1e-6), found.ok()?))
+}
+
+/// 2. Verdicts by the number of branches and the place of the leak.
+pub fn verdicts(report: &mut Report, effort: Effort, quick: bool) -> io::Result<()> {
+    report.table(
+        "Verdicts: isolated",
+        &[
+            "leak",
+            "N",
+            "library",
+            "Rust",
+            "z3, one formula",
+            "z3, first pair",
+            "first pair / library",
+            "first pair / Rust",
+        ],
+    );
+    let mut plots: [Vec<(f64, f64)>; 4] = Default::default();
+    for n in [1, 16, 64, 256] {
+        for leak in [Leak::First, Leak::Last, Leak::None] {
+            let sheet = sheets::branches(n, leak);
+            let packed = pack::sheet(&sheet);
+            let ours = by_library(effort, "isolated", || library::isolated(&packed, 0, 0));
+            let rust = time(effort, || calls::isolated(&packed, 0, 0));
+            let whole = by_z3(&smt::isolated(&sheet, 0, 0), if quick { 10 } else { 40 });
+            let first = match isolation(&sheet, 0, 0) {
+                Isolation::Isolated => None,
+                Isolation::Leaks(a, b) => Some((a as usize, b as usize)),
+            };
+            // In the short form z3 isn't asked for thousands of pairs.
+            let few = first == Some((0, 0)) || n <= if quick { 16 } else { 256 };
+            let repeats = if first == Some((0, 0)) || n <= 16 { 10 } else { 1 };
+            let paired = few.then(|| by_z3(&smt::pairs(&sheet, 0, 0, first), repeats)).flatten();
+            if let (Some((_, whole)), Some((_, paired))) = (&whole, &paired) {
+                assert!(whole[0] == (leak != Leak::None) && paired.contains(&true) == whole[0], "z3 differs");
+            }
+            let (a, b, c, d) = (ours.map(|t| t.median), Some(rust.median), whole.map(|t| t.0), paired.map(|t| t.0));
+            let show = |time: Option<f64>| time.map_or("-".into(), readable);
+            let cells = [format!("{leak:?}").to_lowercase(), n.to_string(), cell(ours), rust.to_string()];
+            report.row(&[&cells[..], &[show(c), show(d), ratio(d, a), ratio(d, b)]].concat());
+            if leak == Leak::None {
+                for (series, time) in plots.iter_mut().zip([a, b, c, d]) {
+                    series.extend(time.map(|time| (n as f64, time)));
+                }
+            }
+        }
+    }
+    let worst = sheets::worst();
+    let packed = pack::sheet(&worst);
+    let once = Effort { runs: 3, ..effort };
+    let ours = by_library(once, "isolated", || library::isolated(&packed, 0, 0));
+    let rust = (!quick).then(|| {
+        let start = Instant::now();
+        assert_eq!(calls::isolated(&packed, 0, 0), Ok(Isolation::Isolated));
+        start.elapsed().as_secs_f64()
+    });
+    report.target("the worst sheet's verdict: under 5 s", ours.map(|time| (readable(time.median), time.median < 5.0)));
+    let cells = [format!("none; the worst sheet found, {} bytes", packed.len()), "256".into(), cell(ours)];
+    report.row(&[&cells[..], &[rust.map_or("-".into(), readable)], &["-"; 4].map(String::from)].concat());
+    let [ours, rust, whole, paired] = plots;
+    let named = |name: &str, points| Series { name: name.into(), points };
+    let series =
+        [named("library", ours), named("Rust", rust), named("z3, one formula", whole), named("z3, first pair", paired)];
+    report.plot("verdicts.svg", "Isolated, no leak: N against time", "N", &series)
+}
+
+/// The questions dead, isolated and covers on random sheets; z3's answers must be the same.
+pub fn random_verdicts(report: &mut Report, quick: bool) {
+    let mut random = Random::new(10);
+    let wanted = if quick { 40 } else { 300 };
+    let mut made: Vec<Sheet> = Vec::new();
+    while made.len() < wanted {
+        let size = if random.once_in(3) { random_sheets::CROWDED } else { random_sheets::SMALL };
+        let sheet = random_sheets::sheet(&mut random, size);
+        let bytes = pack::sheet(&sheet);
+        if sheet.policies.len() > 1 && parse(&bytes).is_ok() && calls::dead(&bytes, 0, 0).is_ok() {
+            made.push(sheet);
+        }
+    }
+    let mut script = String::new();
+    let mut expected = Vec::new();
+    for sheet in &made {
+        let bytes = pack::sheet(sheet);
+        script += &smt::dead(sheet, 0, 0);
+        expected.push(calls::dead(&bytes, 0, 0) == Ok(false));
+        script += &smt::isolated(sheet, 0, 0);
+        expected.push(isolation(sheet, 0, 0) != Isolation::Isolated);
+        for q in sheet.policies[1].clauses.iter().filter(|q| is_live(sheet, q)) {
+            for p in &sheet.policies[0].clauses {
+                script += &smt::clause_covers(sheet, p, q);
+                expected.push(!clause_covers(sheet, p, q));
+            }
+        }
+    }
+    let packed: Vec<Vec<u8>> = made.iter().map(pack::sheet).collect();
+    let all = ["dead", "isolated", "covers"].iter().all(|call| exports(call));
+    let seconds = |ask: &dyn Fn(&[u8])| {
+        let start = Instant::now();
+        packed.iter().for_each(|sheet| ask(sheet));
+        start.elapsed().as_secs_f64()
+    };
+    let ours = all.then(|| {
+        seconds(&|sheet| {
+            std::hint::black_box((
+                library::dead(sheet, 0, 0),
+                library::isolated(sheet, 0, 0),
+                library::covers(sheet, 0, 1),
+            ));
+        })
+    });
+    let rust = seconds(&|sheet| {
+        std::hint::black_box((calls::dead(sheet, 0, 0), calls::isolated(sheet, 0, 0), calls::covers(sheet, 0, 1)))
+            .0
+            .ok();
+    });
+    let theirs = by_z3(&script, 1);
+    if let Some((_, found)) = &theirs {
+        assert_eq!(*found, expected, "z3 differs from the reading");
+    }
+    let z3 = theirs.map(|found| found.0);
+    let total = z3.zip(ours).map(|(theirs, ours)| theirs / ours);
+    report.target(
+        "verdicts on random sheets: at least 100 times as fast as z3 in total",
+        total.map(|ratio| (format!("{ratio:.0}"), ratio >= 100.0)),
+    );
+    report.table(
+        "Verdicts on random sheets",
+        &["sheets", "questions to z3", "library", "Rust", "z3", "z3 / library", "z3 / Rust"],
+    );
+    let show = |time: Option<f64>| time.map_or("-".into(), readable);
+    let counts = [made.len().to_string(), expected.len().to_string()];
+    report
+        .row(&[&counts[..], &[show(ours), readable(rust), show(z3), ratio(z3, ours), ratio(z3, Some(rust))]].concat());
+}
