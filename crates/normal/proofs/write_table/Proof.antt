@@ -1,0 +1,33 @@
+-- The three fields, one behind the other.
+use Prim.Native.Nat.{_+_, _-_}
+use borrow.Author.Needs.{needs}
+use mathlib.Core.List.{_++_}
+use Rattle.bits.specs.Bits.{bits}
+use Rattle.packing.proofs.WroteLaws.{wrote-both}
+use Rattle.normal.proofs.write_table.Statement.{statement}
+use Rattle.normal.proofs.write_table.Tie as tie
+
+write-requires : tie.Need-write-requires
+write-requires c κs = search needs
+
+write-requires-2 : tie.Need-write-requires-2
+write-requires-2 c κs = search needs
+
+write-requires-3 : tie.Need-write-requires-3
+write-requires-3 c κs = search needs
+
+same-length : tie.Need-same-length
+same-length c = search needs
+
+returns : tie.Need-returns
+returns c =
+    let t = c .before .before .before .before .before .before .before .before .before .before .before .before .before .args .t in
+    let s = c .before .before .write3 .last .0 in
+    let r = c .before .before .write3 .result in
+    λ o bs k w h. wrote-both o bs (bits 6 (t .schema)) (bits 8 (t .tags) ++ bits 16 (t .columns)) s r
+    (wrote-both o (bs ++ bits 6 (t .schema)) (bits 8 (t .tags)) (bits 16 (t .columns)) s r
+    (c .before .before .write3 .ensures o ((bs ++ bits 6 (t .schema)) ++ bits 8 (t .tags)) (c .before .before .before .before .before .before .write2 .ensures o (bs ++ bits 6 (t .schema)) (c .before .before .before .before .before .before .before .before .before .before .write .ensures o bs w (h .0)) (h .1)) (h .2)))
+
+pub write-table-spec : {M : Type 1} → statement M
+write-table-spec =
+    tie.close (tie.spec write-requires write-requires-2 write-requires-3 same-length returns)

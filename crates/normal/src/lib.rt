@@ -1,0 +1,206 @@
+// The normal form, written as a sheet (01, "Normal form"). A packed sheet and an output come in; out goes the packed normal form and its
+// length, or the refusal: 1 to 11 of the sheet, 14 where the output is shorter than the sheet. "Table facts, policy order, types, commands
+// and selectors stay. A policy left with no clause stays." On a refusal no output byte changes; output beyond the length is as found. The
+// form is never longer than its sheet (proved), so that 16 is never the answer, and what is written always has room. Stands on sheet (the
+// directory), pruned (the six steps) and packing (fields behind one another).
+ghost use mathlib.Core.Path.{_≡_};
+ghost use Prim.Native.Nat.{ℕ, _+_, _*_, _≤_, _<_, min};
+ghost use mathlib.Core.Bool.{cond};
+ghost use mathlib.Core.List.{List, [], _∷_, _++_};
+ghost use lib.ListN.{length, take, getD};
+ghost use Rattle.lists.specs.Lists.{All, each};
+ghost use Rattle.bits.specs.Bits.{bits};
+ghost use Rattle.meaning.specs.Sheets as m;
+ghost use Rattle.meaning.specs.Sheets.{Sheet, Selector, policyAt};
+ghost use Rattle.meaning.specs.Packed.{tableBits, clauseBits, countBits, factBits};
+ghost use Rattle.meaning.specs.Reading.{found, selector};
+ghost use Rattle.meaning.specs.Allowed.{factsOf, TableAllowed, SheetAllowed};
+ghost use Rattle.meaning.specs.Demands.{Accepted};
+ghost use Rattle.sheet.specs.Directory.{tableOf, noTable, FactsAre, PolicyAt, Described};
+ghost use Rattle.steps.specs.Lists.{kindBy};
+ghost use Rattle.pruned.specs.Pruned.{Known, Fits, clausesOf, chosen, Tidied};
+ghost use Rattle.packing.specs.Wrote.{Wrote, AllInFive};
+ghost use Rattle.normal.specs.Written.{Readable, PolicyWritten, PoliciesWritten};
+use bits::Place;
+use pruned::Clauses;
+use sheet::Directory;
+use sheet::End;
+use sheet::Facts;
+use sheet::Policy;
+use sheet::Table;
+use steps::Values;
+
+// "each table: schema, tags, columns held"
+fn write_table(out: &mut [u8], p: usize, t: Table) -> usize
+    ensures { λ r. ⌜ ((o bs : List ℕ) (c : ℕ) → Wrote o bs (now (out .entry)) p → TableAllowed c (tableOf t) → Wrote o (bs ++ tableBits (tableOf t)) (now (out .exit)) r) ⌝ }
+{
+    let q = packing::write(out, p, 6, t.schema);
+    let u = packing::write(out, q, 8, t.tags);
+    packing::write(out, u, 16, t.columns)
+}
+
+// The first n tables.
+fn write_tables(out: &mut [u8], p: usize, d: Directory, n: usize) -> usize
+    requires { ⌜ n ≤ 16 ⌝ }
+    ensures { λ r. ⌜ ((o bs : List ℕ) (c : ℕ) (ts : List m.Table) → Wrote o bs (now (out .entry)) p → length ts ≡ n → ((i : ℕ) → i < n → tableOf (getD (d .table) i noTable) ≡ getD ts i (tableOf noTable)) → All (TableAllowed c) ts → Wrote o (bs ++ each tableBits ts) (now (out .exit)) r) ⌝ }
+{
+    let mut q = p;
+    let mut i = 0;
+    while i < n {
+        let t = d.table[i];
+        q = write_table(out, q, t);
+        i += 1;
+    }
+    q
+}
+
+// A count, at most the most that there may be.
+fn at_most(n: u64, most: usize) -> usize
+    ensures { λ r. ⌜ (r ≤ most) × (n ≤ most → r ≡ n) ⌝ }
+{
+    if n < most as u64 {
+        return n as usize;
+    }
+    most
+}
+
+// "edition", "columns C, keys K, tables T, policies P"
+fn write_counts(out: &mut [u8], f: Facts, policies: u64) -> usize
+    ensures { λ r. ⌜ ((sheet : Sheet) (o : List ℕ) → FactsAre sheet f → policies ≡ length (sheet .policies) → SheetAllowed sheet → o ≡ now (out .entry) → Wrote o (countBits sheet) (now (out .exit)) r) ⌝ }
+{
+    let a = packing::write(out, 0, 4, 1);
+    let b = packing::write(out, a, 5, f.columns);
+    let c = packing::write(out, b, 4, f.keys);
+    let d = packing::write(out, c, 5, f.tables);
+    packing::write(out, d, 5, policies)
+}
+
+// Everything before the policies.
+pub fn write_facts(out: &mut [u8], d: Directory) -> usize
+    ensures { λ r. ⌜ ((sheet : Sheet) (s o : List ℕ) → Described s sheet d → SheetAllowed sheet → o ≡ now (out .entry) → Wrote o (countBits sheet ++ factBits sheet) (now (out .exit)) r) ⌝ }
+{
+    let f = d.facts;
+    let kinds = f.kinds;
+    let a = write_counts(out, f, d.policies);
+    let b = packing::write_kinds(out, a, kinds, 0, at_most(f.columns, 16));
+    let c = packing::write_kinds(out, b, kinds, 16, at_most(f.keys, 8));
+    write_tables(out, c, d, at_most(f.tables, 16))
+}
+
+// The bit number after the selector at bit number p.
+fn selector_end(s: &[u8], p: usize, f: Facts) -> usize
+    ensures { λ r. ⌜ ((sheet : Sheet) (x : Selector) (q : ℕ) → FactsAre sheet f → length (now (s .entry)) ≤ 16384 → q ≤ length (now (s .entry)) * 8 → selector 6 (factsOf sheet) (now (s .entry)) p ≡ found x q → r ≡ q) ⌝ }
+{
+    let table = Table {
+        schema: 0,
+        tags: 0,
+        columns: 0,
+    };
+    let got = sheet::selectors::selector_at(
+        s,
+        Place {
+            byte: p / 8,
+            bit: p % 8,
+        },
+        6,
+        f.columns,
+        f.tables,
+        0,
+        table,
+    );
+    let end = got.end;
+    let End::At(q) = end else {
+        return p;
+    };
+    if 16384 < q.byte {
+        return p;
+    }
+    if 7 < q.bit {
+        return p;
+    }
+    q.byte * 8 + q.bit
+}
+
+// Steps 1 to 5 of a policy's clauses.
+fn gather(s: &[u8], policy: Policy, f: Facts, top: [u64; 32]) -> Clauses
+    ensures { λ r. ⌜ (r .count ≤ 8) × ((sheet : Sheet) (p : m.Policy) → Known sheet (f .kinds) top → FactsAre sheet f → PolicyAt (now (s .entry)) (factsOf sheet) p policy → length (p .clauses) ≤ 8 → All (Fits sheet) (p .clauses) → Tidied sheet (p .clauses) (clausesOf r)) ⌝ }
+{
+    let n = if_less(policy.count, 8);
+    let kinds = f.kinds;
+    let mut cs = pruned::none();
+    let mut i = 0;
+    while i < n {
+        let at = policy.clauses[i];
+        cs = pruned::take_clause(cs, sheet::clause_at(s, at, f), kinds, top);
+        i += 1;
+    }
+    cs
+}
+
+fn if_less(a: usize, b: usize) -> usize
+    ensures { λ r. ⌜ r ≡ min a b ⌝ }
+{
+    if a < b { a } else { b }
+}
+
+// "clause count; per clause its atom count": the clauses chosen, in their order.
+fn write_chosen(out: &mut [u8], p: usize, cs: Clauses, order: Values, kinds: [u8; 24]) -> usize
+    requires { ⌜ order .count ≤ 8 ⌝ }
+    ensures { λ r. ⌜ ((o bs : List ℕ) → Wrote o bs (now (out .entry)) p → All AllInFive (chosen cs order) → Wrote o (bs ++ (bits 4 (length (chosen cs order)) ++ each (clauseBits (kindBy kinds)) (chosen cs order))) (now (out .exit)) r) ⌝ }
+{
+    let n = order.count;
+    let mut q = packing::write(out, p, 4, n as u64);
+    let mut i = 0;
+    while i < n {
+        let k = order.items[i];
+        q = packing::write_clause(out, q, pruned::clause_number(cs, k), kinds);
+        i += 1;
+    }
+    q
+}
+
+// "0 permissive, 1 restrictive"
+fn type_of(restrictive: bool) -> u64
+    ensures { λ r. ⌜ r ≡ cond restrictive 1 0 ⌝ }
+{
+    if restrictive { 1 } else { 0 }
+}
+
+// "each policy: type, commands", its selector as it stands, and the normal form of its clauses. A policy left with no clause is written too.
+fn write_policy(
+    out: &mut [u8],
+    p: usize,
+    s: &[u8],
+    policy: Policy,
+    f: Facts,
+    top: [u64; 32],
+) -> usize
+    ensures { λ r. ⌜ ((sheet : Sheet) (x : m.Policy) (o bs : List ℕ) → Readable (now (s .entry)) sheet f top x policy → Wrote o bs (now (out .entry)) p → PolicyWritten sheet x o bs (now (out .exit)) r) ⌝ }
+{
+    let from = policy.selector;
+    let kinds = f.kinds;
+    let a = packing::write(out, p, 1, type_of(policy.restrictive));
+    let b = packing::write(out, a, 4, policy.commands);
+    let c = packing::copy(out, b, s, from, selector_end(s, from, f));
+    let cs = gather(s, policy, f, top);
+    let order = pruned::choose(cs, kinds, top);
+    write_chosen(out, c, cs, order, kinds)
+}
+
+// The policies, in their order.
+pub fn write_policies(out: &mut [u8], p: usize, s: &[u8], d: Directory) -> usize
+    ensures { λ r. ⌜ ((sheet : Sheet) (o bs : List ℕ) → Described (now (s .entry)) sheet d → Accepted (now (s .entry)) sheet → Wrote o bs (now (out .entry)) p → PoliciesWritten sheet (length (sheet .policies)) o bs (now (out .exit)) r) ⌝ }
+{
+    let f = d.facts;
+    let kinds = f.kinds;
+    let top = asked::tops(kinds);
+    let n = at_most(d.policies, 16);
+    let mut q = p;
+    let mut i = 0;
+    while i < n {
+        let policy = d.policy[i];
+        q = write_policy(out, q, s, policy, f, top);
+        i += 1;
+    }
+    q
+}
