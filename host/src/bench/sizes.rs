@@ -12,8 +12,7 @@ use std::io;
 /// 3. Reading a sheet, by its size; `branches` reads it and counts.
 pub fn readings(report: &mut Report, effort: Effort, quick: bool) -> io::Result<()> {
     report.table("Reading", &["bytes", "library", "library ns a byte", "Rust", "Rust ns a byte"]);
-    let sizes: &[usize] =
-        if quick { &[100, 1000, 16_000] } else { &[50, 100, 200, 500, 1000, 2000, 4000, 8000, 16_000] };
+    let sizes: &[usize] = if quick { &[200, 1000, 16_000] } else { &[200, 500, 1000, 2000, 4000, 8000, 16_000] };
     let mut plots: [Vec<(f64, f64)>; 2] = Default::default();
     for &size in sizes {
         let packed = pack::sheet(&sheets::of_bytes(size));
