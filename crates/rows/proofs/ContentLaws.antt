@@ -1,12 +1,13 @@
 -- One content: a law for each way in which the code answers.
-use Prim.Native.Nat.{ℕ, _+_, _*_, _/_, _<_, _≤_}
+use Prim.Native.Nat.{ℕ, _+_, _-_, _*_, _/_, _%_, _^_, _<_, _≤_}
 use native.Mathlib.Omega.{arith}
 use mathlib.Core.Path.{_≡_, refl, sym, ap, subst, _∙_}
 use mathlib.Core.List.{List}
-use lib.ListN.{length}
+use lib.ListN.{length, getD}
 use lib.Dec.{leb, eqb}
 use borrow.Author.Tests.{le-leb, lt-leb, eq-eqb, ne-eqb}
 use Rattle.bits.specs.Bits.{number}
+use Rattle.bits.proofs.Laws.{number-in-byte, one-shl}
 use Rattle.meaning.specs.declared.Content.{Content}
 use Rattle.meaning.specs.declared.Content.the-variants.{Null, Value}
 use Rattle.meaning.specs.Values.{Kind, last, raw}
@@ -14,6 +15,23 @@ use Rattle.meaning.specs.Reading.{Read, found, refused, field, value, content}
 use Rattle.rows.specs.declared.ContentRead.{ContentRead}
 use Rattle.rows.specs.declared.ContentRead.the-variants.{Found, Lost}
 use Rattle.rows.specs.Held.{contentFound, endedBy}
+
+-- a bit of a byte, and a byte's last bits, as the code takes them
+module _ (s : List ℕ) (p : ℕ) {b : ℕ} (byte : b ≡ getD s (p / 8) 0) where
+  here : p / 8 * 8 + p % 8 ≡ p
+  here = omega arith
+
+  pub bit-number : b / 2 ^ (7 - p % 8) % 2 ≡ number s p 1
+  bit-number =
+      let low : 8 - (p % 8 + 1) ≡ 7 - p % 8 = omega arith in
+      ap (λ x. x / 2 ^ (7 - p % 8) % 2) byte ∙ ap (λ n. getD s (p / 8) 0 / 2 ^ n % 2) (sym low) ∙ sym (number-in-byte s (p / 8) (p % 8) 1 (omega arith)) ∙ ap (λ q. number s q 1) here
+
+  pub last-bits : (w : ℕ) → p % 8 + w ≡ 8 → b % (1 * 2 ^ w % 2 ^ 64) ≡ number s p w
+  last-bits w e =
+      let low : 8 - (p % 8 + w) ≡ 0 = omega arith in
+      ap (λ x. x % (1 * 2 ^ w % 2 ^ 64)) byte ∙ ap (λ m. getD s (p / 8) 0 % m) (one-shl w (omega arith))
+      ∙ sym (number-in-byte s (p / 8) (p % 8) w (omega arith) ∙ ap (λ n. getD s (p / 8) 0 / 2 ^ n % 2 ^ w) low ∙ ap (λ x. x % 2 ^ w) (let one : getD s (p / 8) 0 / 1 ≡ getD s (p / 8) 0 = omega arith in one))
+      ∙ ap (λ q. number s q w) here
 
 module _ (k : Kind) (s : List ℕ) (p : ℕ) where
   -- no presence bit

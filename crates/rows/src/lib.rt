@@ -3,15 +3,16 @@
 // true: "A session is, for each key ascending, one presence bit (0 is null) and, if that is 1, a value of its kind; zero bits fill the last
 // byte. A row is the same over the columns that its table holds". Stands on bits, meaning and values; specs/Held.antt says what an answer
 // stands for.
-use bits::peek;
+use bits::peek64;
 use meaning::Content;
 use values::last_of;
 use values::raw_of;
 ghost use mathlib.Core.Path.{_≡_};
-ghost use Prim.Native.Nat.{ℕ, _+_, _*_, _^_, _≤_, _<_};
+ghost use Prim.Native.Nat.{ℕ, _+_, _*_, _/_, _^_, _≤_, _<_};
 ghost use mathlib.Core.Bool.{Bool, true};
 ghost use mathlib.Core.List.{List};
 ghost use lib.ListN.{length};
+ghost use Rattle.bits.specs.Bits.{number};
 ghost use Rattle.meaning.specs.Values.{Kind, kindNumber};
 ghost use Rattle.meaning.specs.Sheets.{Sheet, Table, holds};
 ghost use Rattle.meaning.specs.Reading.{content, contents, padding, row, readSession, readRows};
@@ -29,6 +30,21 @@ pub enum Ended {
     Lost,
 }
 
+// A byte as a word.
+fn wide(b: u8) -> u64
+    ensures { λ r. ⌜ r ≡ b ⌝ }
+{
+    b as u64
+}
+
+// The bit at bit number p.
+fn bit_at(s: &[u8], p: usize) -> u64
+    requires { ⌜ p / 8 < length (now s) ⌝ }
+    ensures { λ r. ⌜ r ≡ number (now (s .entry)) p 1 ⌝ }
+{
+    (wide(s[p / 8]) >> (7 - p % 8)) % 2
+}
+
 // A content of a kind at bit number p.
 pub fn content_at(s: &[u8], p: usize, kind: u8) -> ContentRead
     requires { ⌜ p ≤ 2 ^ 32 ⌝ }
@@ -37,13 +53,13 @@ pub fn content_at(s: &[u8], p: usize, kind: u8) -> ContentRead
     if s.len() <= p / 8 {
         return ContentRead::Lost;
     }
-    if peek(s, p, 1) == 0 {
+    if bit_at(s, p) == 0 {
         return ContentRead::Found(Content::Null, p + 1);
     }
     if s.len() < (p + 72) / 8 {
         return ContentRead::Lost;
     }
-    let v = raw_of(kind, peek(s, p + 1, 64));
+    let v = raw_of(kind, peek64(s, p + 1));
     if v <= last_of(kind) {
         return ContentRead::Found(Content::Value(v), p + 65);
     }
@@ -99,7 +115,10 @@ fn padded(s: &[u8], p: usize) -> Ended
     ensures { λ r. ⌜ (r ≡ endOf (padding (now (s .entry)) p)) × within p (p + 7) (length (now (s .entry)) * 8) r ⌝ }
 {
     let w = (8 - p % 8) % 8;
-    if peek(s, p, w) == 0 {
+    if w < 1 {
+        return Ended::At(p + w);
+    }
+    if wide(s[p / 8]) % (1u64 << w) == 0 {
         return Ended::At(p + w);
     }
     Ended::Lost

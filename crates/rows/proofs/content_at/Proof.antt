@@ -8,8 +8,8 @@ use Rattle.rows.proofs.content_at.Tie as tie
 returns : tie.Need-returns
 returns c = (tt, λ k K. content-cut k _ _ (search needs))
 
-peek-requires : tie.Need-peek-requires
-peek-requires c κs = search needs
+bit-at-requires : tie.Need-bit-at-requires
+bit-at-requires c κs = search needs
 
 add-t10 : tie.Need-add-t10
 add-t10 c = search needs
@@ -23,11 +23,11 @@ add-if3 c = search needs
 returns-3 : tie.Need-returns-3
 returns-3 c = (tt, λ k K. search content-short)
 
-add-peek : tie.Need-add-peek
-add-peek c = search needs
+add-peek64 : tie.Need-add-peek64
+add-peek64 c = search needs
 
-peek-requires-2 : tie.Need-peek-requires-2
-peek-requires-2 c κs = search needs
+peek64-requires : tie.Need-peek64-requires
+peek64-requires c κs = search needs
 
 raw-of-requires : tie.Need-raw-of-requires
 raw-of-requires c κs = search needs
@@ -39,23 +39,23 @@ add-t13 : tie.Need-add-t13
 add-t13 c = search needs
 
 returns-4 : tie.Need-returns-4
-returns-4 c = ((omega arith, omega arith, omega arith), λ k K. content-value k _ _ (c .before .before .before .before .before .before .before .if1 .left) (c .before .before .before .before .before .before .peek .ensures) (c .before .before .before .before .before .if2 .left) (c .before .before .before .before .if3 .left) (c .before .before .before .peek2 .ensures) (c .before .before .raw-of .ensures k K) (c .before .last-of .ensures k K) (c .if4 .taken))
+returns-4 c = ((omega arith, omega arith, omega arith), λ k K. content-value k _ _ (c .before .before .before .before .before .before .before .if1 .left) (c .before .before .before .before .before .before .bit-at .ensures) (c .before .before .before .before .before .if2 .left) (c .before .before .before .before .if3 .left) (c .before .before .before .peek64 .ensures) (c .before .before .raw-of .ensures k K) (c .before .last-of .ensures k K) (c .if4 .taken))
 
 returns-5 : tie.Need-returns-5
-returns-5 c = (tt, λ k K. content-strange k _ _ (c .before .before .before .before .before .before .before .if1 .left) (c .before .before .before .before .before .before .peek .ensures) (c .before .before .before .before .before .if2 .left) (c .before .before .before .before .if3 .left) (c .before .before .before .peek2 .ensures) (c .before .before .raw-of .ensures k K) (c .before .last-of .ensures k K) (c .if4 .left))
+returns-5 c = (tt, λ k K. content-strange k _ _ (c .before .before .before .before .before .before .before .if1 .left) (c .before .before .before .before .before .before .bit-at .ensures) (c .before .before .before .before .before .if2 .left) (c .before .before .before .before .if3 .left) (c .before .before .before .peek64 .ensures) (c .before .before .raw-of .ensures k K) (c .before .last-of .ensures k K) (c .if4 .left))
 
 pub content-at-spec : {M : Type 1} → statement M
 content-at-spec =
     tie.close
     (tie.spec
     returns
-    peek-requires
+    bit-at-requires
     add-t10
     returns-2
     add-if3
     returns-3
-    add-peek
-    peek-requires-2
+    add-peek64
+    peek64-requires
     raw-of-requires
     last-of-requires
     add-t13
