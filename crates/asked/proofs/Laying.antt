@@ -1,16 +1,15 @@
 -- An atom by value laid into words is that atom, free of code. Assumes nothing.
-use Prim.Native.Nat.{ℕ, zero, suc, _+_, _*_, _-_, _%_, _≤_, _<_}
+use Prim.Native.Nat.{ℕ, zero, suc, _+_, _*_, _%_, _≤_, _<_}
 use native.Mathlib.Omega.{arith}
-use mathlib.Core.Path.{_≡_, refl, sym, _∙_, ap, subst}
+use mathlib.Core.Path.{_≡_, refl, sym, _∙_, ap}
 use mathlib.Core.Bool.{Bool, true, false, cond, _&&_}
 use mathlib.Core.List.{List, [], _∷_, _++_, map, append-assoc}
-use lib.ListN.{length, getD, set, length-set, length-map, take, drop}
-use lib.Seq.{take-all, take-suc, take-length, getD-take, getD-set-same, getD-set-other}
+use lib.ListN.{length, getD, set, length-set, length-map, take}
+use lib.Seq.{take-all, take-suc, getD-set-same, getD-set-other}
 use borrow.Author.Count.{below-more}
 use lib.Dec.{leb, ltb, eqb}
-use borrow.Author.Tests.{ltb-true, ltb-false, lt-ltb, le-ltb, le-leb, lt-leb, eqb-true, eq-eqb, ne-eqb}
-use Rattle.meaning.specs.Atoms as m
-use Rattle.meaning.specs.Atoms.{at-most, at-least, is-below, is-above, Operator, equals, in-list, not-in-list, order, is-null, is-not-null}
+use borrow.Author.Tests.{ltb-true, ltb-false, lt-ltb, le-ltb, le-leb, lt-leb, eq-eqb, ne-eqb}
+use Rattle.meaning.specs.Atoms.{at-most, at-least, is-below, is-above, equals, in-list, not-in-list, order, is-null, is-not-null}
 use Rattle.meaning.specs.Steps.{on}
 use Rattle.meaning.specs.declared.Atom.{Atom}
 use Rattle.meaning.specs.declared.Clause.{Clause}

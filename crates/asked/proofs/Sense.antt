@@ -1,25 +1,24 @@
 -- The engine's conjunctions in the document's words, free of code. Assumes nothing.
-use Prim.Native.Nat.{ℕ, zero, suc, _+_, _*_, _-_, _/_, _%_, _≤_, _<_}
+use Prim.Native.Nat.{ℕ, zero, suc, _+_, _*_, _%_, _≤_, _<_}
 use native.Mathlib.Omega.{arith}
 use native.Mathlib.Nat.{not-suc-le-zero}
 use mathlib.Core.Path.{_≡_, refl, sym, _∙_, ap, subst}
 use mathlib.Core.Bool.{Bool, true, false, cond, not, _&&_, _||_}
-use mathlib.Core.List.{List, [], _∷_, _++_, map}
-use lib.ListN.{length, getD, take}
-use lib.Dec.{leb, ltb, eqb}
+use mathlib.Core.List.{List, [], _∷_, _++_}
+use lib.ListN.{getD}
+use lib.Dec.{eqb}
 use borrow.Author.Count.{below-more}
-use borrow.Author.Tests.{ltb-true, ltb-false, leb-true, leb-false, eqb-true, eqb-false, lt-ltb, le-ltb, le-leb, lt-leb, eq-eqb, ne-eqb}
-use Rattle.reach.specs.Meaning as e
-use Rattle.reach.specs.Meaning.{Test.oneOf, Test.noneOf, Test.atMost, Test.atLeast, Test.under, Test.over, Test.isNull, Test.notNull, Content.null, Content.value, Atom.holds, wants, allows, pickTest, pickAtom, testAt, atomAt, varAt, opAt, otherAt, atoms, Sat}
+use borrow.Author.Tests.{ltb-true, leb-true, eqb-true, lt-ltb, le-leb, eq-eqb}
+use Rattle.words.specs.Meaning as e
+use Rattle.words.specs.Meaning.{Test.oneOf, Test.noneOf, Test.atMost, Test.atLeast, Test.under, Test.over, Test.isNull, Test.notNull, Content.null, Content.value, Atom.holds, wants, pickTest, pickAtom, testAt, atomAt, varAt, opAt, otherAt, atoms, Sat}
 use Rattle.meaning.specs.declared.Content.{Content}
 use Rattle.meaning.specs.declared.Content.the-variants.{Null, Value}
-use Rattle.lists.specs.Lists.{every, any}
+use Rattle.lists.specs.Lists.{every}
 use Rattle.meaning.specs.Values.{Contents}
-use Rattle.meaning.specs.Atoms.{at-most, at-least, is-below, is-above, Operator, equals, in-list, not-in-list, order, is-null, is-not-null, Atom, Clause, among, isValue, passes, met, clauseMet}
+use Rattle.meaning.specs.Atoms.{at-most, at-least, is-below, is-above, Operator, equals, in-list, not-in-list, order, is-null, is-not-null, Atom, among, isValue, passes, met, clauseMet}
 use Rattle.meaning.specs.Steps.{on}
-use Rattle.meaning.specs.Views.{testOf, operatorOf}
 use Rattle.asked.specs.Words.{numbersAt, wordAtom, wordAtoms}
-use Rattle.reach.proofs.NeedLaws.{clash}
+use Rattle.words.proofs.NeedLaws.{clash}
 
 -- each follows from the other
 abbrev pub Same : Type 0 → Type 0 → Type 0

@@ -1,28 +1,28 @@
 -- A row and two sessions are contents of the engine's 32 variables, free of code. Assumes nothing.
-use Prim.Native.Nat.{ℕ, zero, suc, _+_, _*_, _-_, _/_, _%_, _≤_, _<_}
+use Prim.Native.Nat.{ℕ, _+_, _-_, _%_, _≤_, _<_}
 use native.Mathlib.Omega.{arith}
 use mathlib.Core.Path.{_≡_, refl, sym, _∙_, ap, subst}
-use mathlib.Core.Bool.{Bool, true, false, cond, not, _&&_, _||_}
+use mathlib.Core.Bool.{Bool, true, false, cond, _&&_}
 use mathlib.Core.List.{List, [], _∷_, _++_, map}
-use lib.ListN.{length, getD, take}
-use lib.Dec.{leb, ltb, eqb}
-use borrow.Author.Tests.{ltb-true, ltb-false, leb-true, leb-false, lt-ltb, le-ltb, le-leb, lt-leb}
-use Rattle.reach.specs.Meaning as e
-use Rattle.reach.specs.Meaning.{Content.null, Content.value, atoms, Sat, Differ}
-use Rattle.reach.specs.Search.{Answers, Apart, Parts}
+use lib.ListN.{length, getD}
+use lib.Dec.{ltb}
+use borrow.Author.Tests.{ltb-true, ltb-false, lt-ltb, le-ltb}
+use Rattle.words.specs.Meaning as e
+use Rattle.words.specs.Meaning.{Content.null, Content.value, atoms, Sat}
+use Rattle.reach.specs.Solution.{Answers, Apart, Parts}
 use Rattle.meaning.specs.declared.Content.{Content}
 use Rattle.meaning.specs.declared.Content.the-variants.{Null, Value}
-use Rattle.lists.specs.Lists.{every, any, All}
+use Rattle.lists.specs.Lists.{All}
 use Rattle.meaning.specs.Values.{Kind, integer, last, Fits, Contents, with}
-use Rattle.meaning.specs.Atoms.{Operator, equals, in-list, not-in-list, order, is-null, is-not-null, Atom, Clause, isValue, passes, met, clauseMet}
+use Rattle.meaning.specs.Atoms.{Operator, equals, in-list, not-in-list, order, is-null, is-not-null, Clause, isValue, passes, met, clauseMet}
 use Rattle.meaning.specs.Sheets as sheets
 use Rattle.meaning.specs.Sheets.{Sheet}
 use Rattle.meaning.specs.Questions.{Holds, IsSession}
 use Rattle.asked.specs.Words.{wordAtoms, slotOf, seenBy, seen}
 use Rattle.lists.specs.Decides.{Decides}
 use Rattle.asked.specs.Asked.{Ranges, There, Uses, Unlike, three, Both}
-use Rattle.reach.proofs.NeedLaws.{clash}
-use Rattle.asked.proofs.Laying.{both, slot-lt, slot-key, slot-column}
+use Rattle.words.proofs.NeedLaws.{clash}
+use Rattle.asked.proofs.Laying.{both, slot-key, slot-column}
 use Rattle.asked.proofs.Sense.{told, said, told-said, said-told, and-true, every-append, append-every, sat-met, met-sat}
 
 -- an atom on other numbers

@@ -4,7 +4,7 @@ use mathlib.Core.Path.{_≡_, refl, _∙_, ap}
 use mathlib.Core.Bool.{Bool, true, false}
 use mathlib.Core.List.{List, []}
 use lib.ListN.{length, take}
-use Rattle.reach.specs.Search as search
+use Rattle.reach.specs.Solution as search
 use Rattle.meaning.specs.Atoms.{clauseMet}
 use Rattle.asked.specs.Words.{slotOf}
 use Rattle.asked.specs.Asked.{TellsMeets, TellsLeak}

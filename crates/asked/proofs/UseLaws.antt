@@ -1,6 +1,6 @@
 -- An accepted sheet's clauses have only variables that are there: those of the sheet, and, where a policy applies to a table, those that the
 -- table's rows and the sessions have. Free of code; assumes nothing.
-use Prim.Native.Nat.{ℕ, zero, suc, _+_, _-_, _<_, _≤_}
+use Prim.Native.Nat.{ℕ, zero, suc, _+_, _<_}
 use native.Mathlib.Omega.{arith}
 use mathlib.Core.Path.{_≡_, refl, sym, _∙_, ap, subst}
 use mathlib.Core.Bool.{Bool, true, false, cond, _&&_}
@@ -11,10 +11,9 @@ use borrow.Author.Tests.{lt-ltb}
 use Rattle.lists.specs.Lists.{numbersFrom, every, keep, each, All}
 use Rattle.lists.proofs.BoolLaws.{both}
 use Rattle.lists.proofs.OrderLaws.{all-map}
-use Rattle.meaning.specs.Atoms.{Operator, equals, in-list, not-in-list, order, is-null, is-not-null, Atom, Clause}
+use Rattle.meaning.specs.Atoms.{Operator, equals, in-list, not-in-list, order, is-null, is-not-null, Clause}
 use Rattle.meaning.specs.Sheets.{Table, Policy, Sheet, tableAt, policyAt, holds, matches, applies, permissive, restrictive, joined, choices, branches, second, columnsHeld, tablesServe}
-use Rattle.meaning.specs.Sheets as sheets
-use Rattle.meaning.specs.Allowed.{IsVariable, OperatorAllowed, AtomAllowed, ClauseAllowed, PolicyAllowed, factsOf, SheetAllowed}
+use Rattle.meaning.specs.Allowed.{IsVariable, OperatorAllowed, ClauseAllowed, factsOf, SheetAllowed}
 use Rattle.lists.proofs.ListLaws.{all-append}
 use Rattle.asked.specs.Asked.{There, Uses, everyColumn}
 

@@ -1,19 +1,19 @@
 -- What the engine's answers say of clauses, and the ways in which an atom fails, free of code. Assumes nothing.
-use Prim.Native.Nat.{ℕ, zero, suc, _+_, _*_, _-_, _/_, _%_, _≤_, _<_}
+use Prim.Native.Nat.{ℕ, zero, suc, _+_, _*_, _/_, _%_, _≤_, _<_}
 use native.Mathlib.Omega.{arith}
 use native.Mathlib.Nat.{not-suc-le-zero}
 use mathlib.Core.Path.{_≡_, refl, sym, _∙_, ap, subst}
-use mathlib.Core.Bool.{Bool, true, false, cond, not, _&&_, _||_}
+use mathlib.Core.Bool.{Bool, true, false, cond, not}
 use mathlib.Core.List.{List, [], _∷_, _++_, map}
 use lib.ListN.{length, getD, take}
 use lib.Seq.{length-take-le, getD-take, take-suc}
 use lib.Dec.{leb, ltb, eqb}
 use borrow.Author.Tests.{ltb-true, ltb-false, leb-true, leb-false, eqb-true, eqb-false, lt-ltb, le-ltb, le-leb, lt-leb, ne-eqb, eq-eqb}
-use Rattle.reach.specs.Meaning.{atoms}
-use Rattle.reach.specs.Search as search
+use Rattle.words.specs.Meaning.{atoms}
+use Rattle.reach.specs.Solution as search
 use Rattle.meaning.specs.declared.Content.{Content}
 use Rattle.meaning.specs.declared.Content.the-variants.{Null, Value}
-use Rattle.lists.specs.Lists.{every, All}
+use Rattle.lists.specs.Lists.{All}
 use Rattle.meaning.specs.Values.{Contents, with}
 use Rattle.meaning.specs.Atoms as m
 use Rattle.meaning.specs.Atoms.{Order, at-most, at-least, is-below, is-above, Operator, equals, in-list, not-in-list, order, is-null, is-not-null, among, inOrder, isValue, passes, met, clauseMet}
@@ -26,8 +26,8 @@ use Rattle.meaning.specs.declared.Clause.{Clause}
 use Rattle.meaning.specs.Views.{testOf, operatorOf, atomOf, clauseOf}
 use Rattle.asked.specs.Words.{wordAtoms, slotOf, seen, upTo8}
 use Rattle.lists.specs.Decides.{Decides}
-use Rattle.asked.specs.Asked.{Ranges, There, Uses, everyColumn, Tells, Unlike, three, Both, Differs, turnedOrder, turnedBy, turned, turnedNumber}
-use Rattle.reach.proofs.NeedLaws.{clash}
+use Rattle.asked.specs.Asked.{Ranges, There, Uses, everyColumn, Tells, Unlike, three, Differs, turnedOrder, turnedBy, turned, turnedNumber}
+use Rattle.words.proofs.NeedLaws.{clash}
 use Rattle.asked.proofs.Laying.{both, words-same, map-append, nil-append, take-8, upTo8-le}
 use Rattle.asked.proofs.Sense.{and-both, and-true, every-append, append-every}
 use Rattle.asked.proofs.Shared.{answered, told-apart, three-with, slot-one}

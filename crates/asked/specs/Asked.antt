@@ -2,11 +2,11 @@
 use Prim.Native.Nat.{ℕ, _+_, _-_, _<_}
 use mathlib.Core.Path.{_≡_}
 use mathlib.Core.Bool.{Bool, true, false, cond}
-use mathlib.Core.List.{List, [], _∷_, _++_, map}
+use mathlib.Core.List.{List, _∷_, _++_, map}
 use lib.ListN.{length, getD}
 use lib.Dec.{ltb, eqb}
 use Rattle.meaning.specs.declared.Content.{Content}
-use Rattle.meaning.specs.declared.Content.the-variants.{Null, Value}
+use Rattle.meaning.specs.declared.Content.the-variants.{Value}
 use Rattle.lists.specs.Lists.{All}
 use Rattle.meaning.specs.Values.{integer, token, boolean, last, Contents, with}
 use Rattle.meaning.specs.Atoms.{at-most, at-least, is-below, is-above, Order, Operator, equals, in-list, not-in-list, order, is-null, is-not-null, Atom, Clause, clauseMet}

@@ -1,19 +1,19 @@
 -- From the search to the meaning: what `solve` and `satisfiable` rest on, free of code. Assumes nothing.
-use Prim.Native.Nat.{ℕ, zero, suc, _+_, _*_, _-_, _/_, _%_, _≤_, _<_, _^_}
+use Prim.Native.Nat.{ℕ, _<_, _^_}
 use native.Mathlib.Omega.{arith}
-use native.Mathlib.Decide.{ℕ-discrete, decLt}
+use native.Mathlib.Decide.{ℕ-discrete}
 use mathlib.Core.Path.{_≡_, refl, sym, _∙_, ap, subst}
-use mathlib.Core.Bool.{Bool, true, false, not}
+use mathlib.Core.Bool.{Bool, true, false}
 use mathlib.Core.List.{List}
-use lib.ListN.{length, getD, set, replicate, length-set, getD-replicate, length-replicate}
-use lib.Seq.{getD-set-same, getD-set-other}
-use lib.Dec.{eqb, ltb}
-use borrow.Author.Tests.{eqb-true, eqb-false, ne-eqb, eq-eqb, lt-ltb, le-ltb, ltb-true, ltb-false}
-use Rattle.reach.specs.Meaning.{Test, Content, Atom, Sat, Test.oneOf, Test.noneOf, Test.atMost, Test.atLeast, Test.under, Test.over, Test.isNull, Test.notNull, Content.null, Content.value, Atom.equals, Atom.holds, allows, wants, passes, same, met, pickAtom, testOf, varAt, opAt, otherAt, testAt, atomAt, atoms}
-use Rattle.reach.specs.Search.{pickN, mateAt, Met, Model, Needs, Settles, Within, pickC, contents, Asks, Solves, Answers}
+use lib.ListN.{getD, replicate}
+use lib.Dec.{eqb}
+use borrow.Author.Tests.{eqb-true, ne-eqb, eq-eqb}
+use Rattle.words.specs.Meaning.{Test, Content, Sat, Test.oneOf, Test.noneOf, Test.atMost, Test.atLeast, Test.under, Test.over, Test.isNull, Test.notNull, Content.null, Content.value, Atom.equals, Atom.holds, allows, wants, passes, same, met, pickAtom, varAt, opAt, otherAt, testAt, atomAt, atoms}
+use Rattle.words.specs.Ties.{pickN, mateAt, Met, Model, Needs}
+use Rattle.reach.specs.Solution.{Settles, Within, pickC, contents, Asks, Solves, Answers}
 use Rattle.reach.specs.declared.Settled.{Settled}
 use Rattle.reach.specs.declared.Solved.{Solved}
-use Rattle.reach.proofs.NeedLaws.{clash, has-value}
+use Rattle.words.proofs.NeedLaws.{clash, has-value, zero-at}
 
 -- the atom's two forms mean the same
 
@@ -150,11 +150,6 @@ module _ (s top need0 floor need : List ℕ) (r : Settled) (bound : (v : ℕ) �
       let d = h .fits (w .0) (a .0) (w .1) (a .1) in
       let g = w .3 in
       omega arith)
-
-pub zero-at : (n v : ℕ) → _≡_ {A = ℕ} (getD (replicate n 0) v 0) 0
-zero-at zero v = refl
-zero-at (suc n) zero = refl
-zero-at (suc n) (suc v) = zero-at n v
 
 abbrev pub zeros : List ℕ
 zeros = replicate 32 0

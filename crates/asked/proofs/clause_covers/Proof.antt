@@ -1,18 +1,14 @@
-use Prim.Native.Nat.{ℕ, _+_, _-_, _*_, _<_, _≤_}
-use mathlib.Core.Path.{_≡_, refl, sym, ap, _∙_}
+use Prim.Native.Nat.{_-_, _≤_}
+use mathlib.Core.Path.{_≡_}
 use native.Mathlib.Omega.{arith}
 use borrow.Author.Needs.{needs}
-use lib.ListN.{length, getD, take}
+use lib.ListN.{length}
 use Rattle.meaning.specs.Views.{clauseOf}
 use Rattle.asked.specs.Words.{upTo8}
 use Rattle.asked.proofs.Laying.{upTo8-le, unmapped, no-atom}
 use Rattle.asked.proofs.Ways.{Implied, implied-none, implied-more, implied-all, implied-not}
 use Rattle.asked.proofs.clause_covers.Statement.{statement}
 use Rattle.asked.proofs.clause_covers.Tie as tie
-use Rattle.asked.proofs.clause_covers.Reads as reads
-use Rattle.asked.proofs.clause_covers.Lts as lts
-use Rattle.asked.proofs.implies.Reads as implies-reads
-use Rattle.asked.proofs.size.Reads as size-reads
 
 abbrev Inv-loop : tie.InvT-loop
 Inv-loop q top p n i₀ i = (i ≤ n) × (n ≤ 8) × (n ≡ upTo8 (p .count)) × Implied top (p .atoms) (clauseOf q) i

@@ -1,17 +1,11 @@
 use Rattle.meaning.specs.Views.{clauseOf}
-use Prim.Native.Nat.{ℕ, _+_, _-_, _*_, _<_, _≤_}
-use mathlib.Core.Path.{_≡_, refl, sym, ap, _∙_}
+use mathlib.Core.Path.{refl, sym}
 use native.Mathlib.Omega.{arith}
-use lib.ListN.{length, getD, take}
 use lib.Seq.{length-take-le}
 use Rattle.asked.proofs.Ways.{differs-told}
 use borrow.Author.Needs.{needs}
 use Rattle.asked.proofs.differs.Statement.{statement}
 use Rattle.asked.proofs.differs.Tie as tie
-use Rattle.asked.proofs.differs.Reads as reads
-use Rattle.asked.proofs.differs.Lts as lts
-use Rattle.asked.proofs.lay.Reads as lay-reads
-use Rattle.reach.proofs.apart.Reads as apart-reads
 
 slice-aggregate-lay : tie.Need-slice-aggregate-lay
 slice-aggregate-lay c = search needs

@@ -3,12 +3,6 @@ use Rattle.asked.proofs.Ways.{implies-turned-yes, implies-null-no, impl
 use borrow.Author.Needs.{needs}
 use Rattle.asked.proofs.implies.Statement.{statement}
 use Rattle.asked.proofs.implies.Tie as tie
-use Rattle.asked.proofs.implies.Reads as reads
-use Rattle.asked.proofs.implies.Lts as lts
-use Rattle.asked.proofs.differs.Reads as differs-reads
-use Rattle.asked.proofs.meets_both.Reads as meets-both-reads
-use Rattle.asked.proofs.null_of.Reads as null-of-reads
-use Rattle.asked.proofs.turned_atom.Reads as turned-atom-reads
 
 turned-atom-requires : tie.Need-turned-atom-requires
 turned-atom-requires c κs = search needs

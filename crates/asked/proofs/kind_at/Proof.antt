@@ -5,8 +5,6 @@ use Rattle.asked.proofs.RangeLaws.{place-first, place-second}
 use borrow.Author.Needs.{needs}
 use Rattle.asked.proofs.kind_at.Statement.{statement}
 use Rattle.asked.proofs.kind_at.Tie as tie
-use Rattle.asked.proofs.kind_at.Reads as reads
-use Rattle.asked.proofs.kind_at.Lts as lts
 
 array-read-result : tie.Need-array-read-result
 array-read-result c = search needs

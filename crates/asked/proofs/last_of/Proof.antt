@@ -1,8 +1,6 @@
 use borrow.Author.Tests.{ne-eqb}
 use Rattle.asked.proofs.last_of.Statement.{statement}
 use Rattle.asked.proofs.last_of.Tie as tie
-use Rattle.asked.proofs.last_of.Reads as reads
-use Rattle.asked.proofs.last_of.Lts as lts
 
 returns : tie.Need-returns
 returns c = rw (c .if1 .taken)

@@ -1,18 +1,14 @@
-use Prim.Native.Nat.{ℕ, _+_, _-_, _*_, _<_, _≤_}
-use mathlib.Core.Path.{_≡_, refl, sym, ap, _∙_}
-use mathlib.Core.List.{List, [], _∷_, _++_, map}
+use Prim.Native.Nat.{_+_, _-_, _≤_}
+use mathlib.Core.Path.{_≡_, refl}
+use mathlib.Core.List.{_++_, map}
 use native.Mathlib.Omega.{arith}
 use borrow.Author.Needs.{needs}
-use lib.ListN.{length, getD, take}
-use Rattle.meaning.specs.Views.{atomOf, clauseOf}
+use lib.ListN.{length, take}
+use Rattle.meaning.specs.Views.{atomOf}
 use Rattle.asked.specs.Words.{upTo8, seen, wordAtoms}
 use Rattle.asked.proofs.Laying.{lays-none, lays-more, lays-all, upTo8-le, unmapped, no-atom}
 use Rattle.asked.proofs.lay.Statement.{statement}
 use Rattle.asked.proofs.lay.Tie as tie
-use Rattle.asked.proofs.lay.Reads as reads
-use Rattle.asked.proofs.lay.Lts as lts
-use Rattle.asked.proofs.lay_atom.Reads as lay-atom-reads
-use Rattle.asked.proofs.size.Reads as size-reads
 
 abbrev Inv-loop : tie.InvT-loop
 Inv-loop words₀ n second c k i₀ words i =

@@ -1,18 +1,13 @@
-use Prim.Native.Nat.{ℕ, _+_, _-_, _*_, _<_, _≤_}
-use mathlib.Core.Path.{_≡_, refl, sym, ap, _∙_}
+use Prim.Native.Nat.{ℕ, _+_, _-_, _<_, _≤_}
+use mathlib.Core.Path.{_≡_, refl, _∙_}
 use native.Mathlib.Omega.{arith}
 use native.Mathlib.Nat.{not-suc-le-zero}
 use borrow.Author.Needs.{needs}
-use lib.ListN.{length, getD, set, length-set}
+use lib.ListN.{length, getD, length-set}
 use lib.Seq.{getD-set-other}
-use Rattle.asked.proofs.Laying.{grow-new}
-use Rattle.asked.proofs.Laying.{laid-so}
+use Rattle.asked.proofs.Laying.{grow-new, laid-so}
 use Rattle.asked.proofs.lay_atom.Statement.{statement}
 use Rattle.asked.proofs.lay_atom.Tie as tie
-use Rattle.asked.proofs.lay_atom.Reads as reads
-use Rattle.asked.proofs.lay_atom.Lts as lts
-use Rattle.asked.proofs.slot.Reads as slot-reads
-use Rattle.asked.proofs.third.Reads as third-reads
 
 abbrev Inv-loop : tie.InvT-loop
 Inv-loop words₀ n second b values op k₀ words k =

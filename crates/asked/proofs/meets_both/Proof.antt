@@ -1,19 +1,13 @@
-use mathlib.Core.List.{List, [], _∷_, _++_}
+use mathlib.Core.List.{[], _∷_, _++_}
 use Rattle.meaning.specs.Views.{clauseOf, atomOf}
-use Prim.Native.Nat.{ℕ, _+_, _-_, _*_, _<_, _≤_}
-use mathlib.Core.Path.{_≡_, refl, sym, ap, _∙_}
+use Prim.Native.Nat.{_+_, _*_}
+use mathlib.Core.Path.{sym, _∙_}
 use native.Mathlib.Omega.{arith}
-use lib.ListN.{length, getD, take}
 use lib.Seq.{length-take-le}
 use Rattle.asked.proofs.Ways.{live-told, lays-last}
 use borrow.Author.Needs.{needs}
 use Rattle.asked.proofs.meets_both.Statement.{statement}
 use Rattle.asked.proofs.meets_both.Tie as tie
-use Rattle.asked.proofs.meets_both.Reads as reads
-use Rattle.asked.proofs.meets_both.Lts as lts
-use Rattle.asked.proofs.lay.Reads as lay-reads
-use Rattle.asked.proofs.lay_atom.Reads as lay-atom-reads
-use Rattle.reach.proofs.satisfiable.Reads as satisfiable-reads
 
 slice-aggregate-lay : tie.Need-slice-aggregate-lay
 slice-aggregate-lay c = search needs

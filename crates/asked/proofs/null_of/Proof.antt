@@ -1,8 +1,6 @@
 use Rattle.asked.proofs.Ways.{null-made}
 use Rattle.asked.proofs.null_of.Statement.{statement}
 use Rattle.asked.proofs.null_of.Tie as tie
-use Rattle.asked.proofs.null_of.Reads as reads
-use Rattle.asked.proofs.null_of.Lts as lts
 
 returns : tie.Need-returns
 returns c = null-made _

@@ -1,8 +1,6 @@
 use Rattle.asked.proofs.Laying.{few, many}
 use Rattle.asked.proofs.size.Statement.{statement}
 use Rattle.asked.proofs.size.Tie as tie
-use Rattle.asked.proofs.size.Reads as reads
-use Rattle.asked.proofs.size.Lts as lts
 
 returns : tie.Need-returns
 returns c = few _ (c .if1 .taken)

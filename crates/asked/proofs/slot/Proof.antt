@@ -1,10 +1,7 @@
 use borrow.Author.Needs.{needs}
-use mathlib.Core.Path.{_≡_, refl, sym, ap}
 use Rattle.asked.proofs.Laying.{slot-plain, slot-column, slot-key}
 use Rattle.asked.proofs.slot.Statement.{statement}
 use Rattle.asked.proofs.slot.Tie as tie
-use Rattle.asked.proofs.slot.Reads as reads
-use Rattle.asked.proofs.slot.Lts as lts
 
 add-result : tie.Need-add-result
 add-result c = search needs

@@ -2,10 +2,6 @@ use Rattle.asked.proofs.Laying.{third-other, third-count}
 use borrow.Author.Needs.{needs}
 use Rattle.asked.proofs.third.Statement.{statement}
 use Rattle.asked.proofs.third.Tie as tie
-use Rattle.asked.proofs.third.Reads as reads
-use Rattle.asked.proofs.third.Lts as lts
-use Rattle.asked.proofs.slot.Reads as slot-reads
-use Rattle.asked.proofs.up_to_8.Reads as up-to-8-reads
 
 slot-requires : tie.Need-slot-requires
 slot-requires c κs = search needs

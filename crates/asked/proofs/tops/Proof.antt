@@ -5,15 +5,11 @@ use native.Mathlib.Omega.{arith}
 use native.Mathlib.Nat.{not-suc-le-zero}
 use mathlib.Core.Path.{_≡_, _∙_, ap}
 use lib.ListN.{length, getD, length-set, length-replicate}
-use Rattle.reach.proofs.ClassLaws.{fill-step}
+use Rattle.words.proofs.ClassLaws.{fill-step}
 use Rattle.asked.specs.Asked.{lastOf, kindPlace}
 use Rattle.asked.proofs.RangeLaws.{ranges}
 use Rattle.asked.proofs.tops.Statement.{statement}
 use Rattle.asked.proofs.tops.Tie as tie
-use Rattle.asked.proofs.tops.Reads as reads
-use Rattle.asked.proofs.tops.Lts as lts
-use Rattle.asked.proofs.kind_at.Reads as kind-at-reads
-use Rattle.asked.proofs.last_of.Reads as last-of-reads
 
 abbrev Inv-loop : tie.InvT-loop
 Inv-loop kinds top₀ v₀ top v = (v ≤ 32) × (length top ≡ 32) × ((w : ℕ) → w < v → getD top w 0 ≡ lastOf (getD kinds (kindPlace w) 0))

@@ -1,12 +1,7 @@
-use Prim.Native.Nat.{ℕ, _+_, _-_, _*_, _<_, _≤_}
-use mathlib.Core.Path.{_≡_, refl, sym, ap, _∙_}
 use native.Mathlib.Omega.{arith}
-use lib.ListN.{length, getD, take}
 use Rattle.asked.proofs.Ways.{turned-at, turned-rest}
 use Rattle.asked.proofs.turned_operator.Statement.{statement}
 use Rattle.asked.proofs.turned_operator.Tie as tie
-use Rattle.asked.proofs.turned_operator.Reads as reads
-use Rattle.asked.proofs.turned_operator.Lts as lts
 
 returns : tie.Need-returns
 returns c = turned-at _ 1 (c .match .keys1)

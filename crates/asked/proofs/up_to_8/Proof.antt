@@ -1,8 +1,6 @@
 use Rattle.asked.proofs.Laying.{few, many}
 use Rattle.asked.proofs.up_to_8.Statement.{statement}
 use Rattle.asked.proofs.up_to_8.Tie as tie
-use Rattle.asked.proofs.up_to_8.Reads as reads
-use Rattle.asked.proofs.up_to_8.Lts as lts
 
 returns : tie.Need-returns
 returns c = few _ (c .if1 .taken)

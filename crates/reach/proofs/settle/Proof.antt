@@ -7,10 +7,6 @@ use lib.ListN.{length, length-set}
 use Rattle.reach.proofs.ChoiceLaws.{Choosing, choosing-none, choosing-skip, choosing-stuck, choosing-add, choices-no, choices-yes}
 use Rattle.reach.proofs.settle.Statement.{statement}
 use Rattle.reach.proofs.settle.Tie as tie
-use Rattle.reach.proofs.settle.Reads as reads
-use Rattle.reach.proofs.settle.Lts as lts
-use Rattle.reach.proofs.class_value.Reads as class-value-reads
-use Rattle.reach.proofs.classes_of.Reads as classes-of-reads
 
 abbrev Inv-loop : tie.InvT-loop
 Inv-loop s floor need rep x₀ v₀ x v = (v ≤ 32) × (length x ≡ 32) × Choosing s need rep floor x v

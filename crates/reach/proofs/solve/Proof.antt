@@ -5,11 +5,6 @@ use mir.Syntax.{w64}
 use Rattle.reach.proofs.SolveLaws.{solves-yes, solves-stuck, solves-out}
 use Rattle.reach.proofs.solve.Statement.{statement}
 use Rattle.reach.proofs.solve.Tie as tie
-use Rattle.reach.proofs.solve.Reads as reads
-use Rattle.reach.proofs.solve.Lts as lts
-use Rattle.reach.proofs.needs.Reads as needs-reads
-use Rattle.reach.proofs.settle.Reads as settle-reads
-use Rattle.reach.proofs.within.Reads as within-reads
 
 needs-requires : tie.Need-needs-requires
 needs-requires c κs = search needs

@@ -1,0 +1,2 @@
+pub mod NeedLaws
+pub mod ClassLaws
