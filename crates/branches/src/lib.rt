@@ -5,12 +5,13 @@
 // which say what roles and counts a sheet's policies have.
 ghost use mathlib.Core.Path.{_≡_};
 ghost use Prim.Native.Nat.{ℕ, _+_, _*_, _<_, _≤_, min};
+ghost use mathlib.Core.Bool.{cond};
 ghost use mathlib.Core.List.{List};
 ghost use lib.ListN.{length};
 ghost use Rattle.meaning.specs.Sheets.{Sheet};
 ghost use Rattle.meaning.specs.Allowed.{SheetAllowed};
 ghost use Rattle.sheet.specs.Directory.{Described};
-ghost use Rattle.branches.specs.Parts.{term, factor, sumTo, productTo, Splits, Finds, Picks, CountsAre};
+ghost use Rattle.branches.specs.Parts.{term, factor, sumTo, productTo, Splits, Finds, Picks, RolesAre, CountsAre};
 use sheet::Directory;
 
 // No clause has this number.
@@ -148,6 +149,38 @@ pub fn pick(roles: [u64; 16], counts: [u64; 16], k: u64) -> Branch
     let p = q.policy;
     slots[p] = q.clause;
     Branch { policy: p, slots }
+}
+
+// A policy's role.
+fn role_of(applies: bool, restrictive: bool) -> u64
+    ensures { λ r. ⌜ r ≡ cond applies (cond restrictive 2 1) 0 ⌝ }
+{
+    if applies {
+        if restrictive {
+            return 2;
+        }
+        return 1;
+    }
+    0
+}
+
+// The roles of a sheet's policies for a table and command.
+pub fn roles(s: &[u8], d: Directory, t: usize, command: u64) -> [u64; 16]
+    ensures { λ r. ⌜ ((sheet : Sheet) → Described (now (s .entry)) sheet d → SheetAllowed sheet → t < length (sheet .tables) → RolesAre sheet t command r) ⌝ }
+{
+    let n = d.policies;
+    let mut roles = [0u64; 16];
+    let mut p: usize = 0;
+    while p < 16 {
+        if n <= p as u64 {
+            return roles;
+        }
+        let policy = d.policy[p];
+        let restrictive = policy.restrictive;
+        roles[p] = role_of(sheet::applies(s, d, t, command, p), restrictive);
+        p += 1;
+    }
+    roles
 }
 
 // The clause counts of a sheet's policies.

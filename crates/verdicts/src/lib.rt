@@ -16,8 +16,15 @@ ghost use Rattle.branches.specs.Parts.{clausesOf, conjunction};
 ghost use Rattle.asked.specs.Words.{wordAtoms, seen};
 ghost use Rattle.covering.specs.Covering.{Read};
 ghost use Rattle.verdicts.specs.Questions.{Poses, LaidAt, TellsBranch, TellsPair, TellsLeaking, Marks};
+
+pub mod replies;
+
 use branches::Branch;
 use meaning::Isolation;
+pub use replies::branch_count;
+pub use replies::covers;
+pub use replies::dead;
+pub use replies::isolated;
 use sheet::Directory;
 
 // What a table and command ask of a sheet: the policies' roles and clause counts, N, and the last values of the variables' kinds.

@@ -1,0 +1,223 @@
+// The replies: what is asked of a sheet, judged in the paper's order, and the answer or the first refusal.
+ghost use mathlib.Core.Path.{_≡_};
+ghost use Prim.Native.Nat.{ℕ, _<_, _≤_};
+ghost use mathlib.Core.Bool.{true, false};
+ghost use Rattle.meaning.specs.Replies.{DeadReply, IsolatedReply, CoversReply, BranchesReply};
+ghost use Rattle.sheet.specs.Directory.{SheetRead};
+ghost use Rattle.verdicts.specs.Questions.{PosedAs};
+ghost use Rattle.verdicts.specs.Answers.{Posing, Accepts, LifeTold, IsolationTold};
+use crate::Posed;
+use crate::Question;
+use crate::Standing;
+use crate::first_leak;
+use crate::is_live;
+use meaning::BranchCount;
+use meaning::Cover;
+use meaning::Isolation;
+use meaning::Life;
+use sheet::Directory;
+use sheet::Outcome;
+use sheet::Reading;
+
+// No question: what stands beside a refusal.
+fn nothing() -> Question {
+    Question {
+        roles: [0u64; 16],
+        counts: [0u64; 16],
+        number: 0,
+        top: [0u64; 32],
+    }
+}
+
+// What a table and command ask of the sheet that the directory describes.
+fn question_of(s: &[u8], d: Directory, t: usize, command: u64) -> Question
+    ensures { λ r. ⌜ Posing (now (s .entry)) d t command r ⌝ }
+{
+    let roles = branches::roles(s, d, t, command);
+    let counts = branches::counts(d);
+    let number = branches::count(roles, counts);
+    let facts = d.facts;
+    let kinds = facts.kinds;
+    let top = asked::tops(kinds);
+    Question {
+        roles: roles,
+        counts: counts,
+        number: number,
+        top: top,
+    }
+}
+
+// 12, "table .. number asked not there, or command over 3", of an accepted sheet
+fn table_of(s: &[u8], d: Directory, table: u32, command: u32) -> Posed
+    ensures { λ r. ⌜ (Accepts (now (s .entry)) d → PosedAs (now (s .entry)) table command r) ⌝ }
+{
+    let facts = d.facts;
+    let tables = facts.tables;
+    if tables <= table as u64 {
+        return Posed {
+            standing: Standing::Refused(12),
+            directory: d,
+            question: nothing(),
+        };
+    }
+    if 3 < command {
+        return Posed {
+            standing: Standing::Refused(12),
+            directory: d,
+            question: nothing(),
+        };
+    }
+    let q = question_of(s, d, table as usize, command as u64);
+    Posed {
+        standing: Standing::Stands,
+        directory: d,
+        question: q,
+    }
+}
+
+// What is asked of the sheet as it was read: 1 to 11 first.
+fn posed(s: &[u8], read: Reading, table: u32, command: u32) -> Posed
+    ensures { λ r. ⌜ (SheetRead (now (s .entry)) read → PosedAs (now (s .entry)) table command r) ⌝ }
+{
+    let d = read.directory;
+    let outcome = read.outcome;
+    match outcome {
+        Outcome::Refused(n) => Posed {
+            standing: Standing::Refused(n),
+            directory: d,
+            question: nothing(),
+        },
+        Outcome::Accepted => table_of(s, d, table, command),
+    }
+}
+
+// 13, "N over 256 (dead and isolated only)"
+const MOST: u64 = 256;
+
+fn life_of(s: &[u8], d: Directory, q: Question) -> Life
+    ensures { λ r. ⌜ LifeTold (now (s .entry)) d q r ⌝ }
+{
+    let n = q.number;
+    if MOST < n {
+        return Life::Refused(13);
+    }
+    if is_live(s, d, q) {
+        return Life::Live;
+    }
+    Life::Dead
+}
+
+fn isolation_of(s: &[u8], d: Directory, q: Question) -> Isolation
+    ensures { λ r. ⌜ IsolationTold (now (s .entry)) d q r ⌝ }
+{
+    let n = q.number;
+    if MOST < n {
+        return Isolation::Refused(13);
+    }
+    first_leak(s, d, q)
+}
+
+fn dead_of(s: &[u8], p: Posed) -> Life
+    ensures { λ r. ⌜ ((t command : ℕ) → PosedAs (now (s .entry)) t command p → DeadReply (now (s .entry)) t command r) ⌝ }
+{
+    let d = p.directory;
+    let q = p.question;
+    let standing = p.standing;
+    match standing {
+        Standing::Refused(n) => Life::Refused(n),
+        Standing::Stands => life_of(s, d, q),
+    }
+}
+
+fn isolated_of(s: &[u8], p: Posed) -> Isolation
+    ensures { λ r. ⌜ ((t command : ℕ) → PosedAs (now (s .entry)) t command p → IsolatedReply (now (s .entry)) t command r) ⌝ }
+{
+    let d = p.directory;
+    let q = p.question;
+    let standing = p.standing;
+    match standing {
+        Standing::Refused(n) => Isolation::Refused(n),
+        Standing::Stands => isolation_of(s, d, q),
+    }
+}
+
+fn count_of(s: &[u8], p: Posed) -> BranchCount
+    ensures { λ r. ⌜ ((t command : ℕ) → PosedAs (now (s .entry)) t command p → BranchesReply (now (s .entry)) t command r) ⌝ }
+{
+    let q = p.question;
+    let n = q.number;
+    let standing = p.standing;
+    match standing {
+        Standing::Refused(m) => BranchCount::Refused(m),
+        Standing::Stands => BranchCount::Branches(n),
+    }
+}
+
+// Is there a policy of this number? A sheet has at most 16.
+fn is_policy(policies: u64, a: u32) -> bool
+    ensures there { λ r. ⌜ (r ≡ true → (a < 16) × (a < policies)) ⌝ }
+    ensures not { λ r. ⌜ (r ≡ false → policies ≤ 16 → policies ≤ a) ⌝ }
+{
+    if 16 <= a {
+        return false;
+    }
+    if policies <= a as u64 {
+        return false;
+    }
+    true
+}
+
+// 12, "policy number asked not there", of an accepted sheet
+fn cover_at(s: &[u8], d: Directory, a: u32, b: u32) -> Cover
+    ensures { λ r. ⌜ (Accepts (now (s .entry)) d → CoversReply (now (s .entry)) a b r) ⌝ }
+{
+    let policies = d.policies;
+    if is_policy(policies, a) {
+        if is_policy(policies, b) {
+            let facts = d.facts;
+            let kinds = facts.kinds;
+            let top = asked::tops(kinds);
+            if covering::policy_covers(s, d, a as usize, b as usize, top) {
+                return Cover::Covers;
+            }
+            return Cover::Misses;
+        }
+        return Cover::Refused(12);
+    }
+    Cover::Refused(12)
+}
+
+pub fn covers(s: &[u8], read: Reading, a: u32, b: u32) -> Cover
+    ensures { λ r. ⌜ (SheetRead (now (s .entry)) read → CoversReply (now (s .entry)) a b r) ⌝ }
+{
+    let d = read.directory;
+    let outcome = read.outcome;
+    match outcome {
+        Outcome::Refused(n) => Cover::Refused(n),
+        Outcome::Accepted => cover_at(s, d, a, b),
+    }
+}
+
+// "Dead: no row and session is admitted." The sheet's reading comes in beside its bytes.
+pub fn dead(s: &[u8], read: Reading, table: u32, command: u32) -> Life
+    ensures { λ r. ⌜ (SheetRead (now (s .entry)) read → DeadReply (now (s .entry)) table command r) ⌝ }
+{
+    let p = posed(s, read, table, command);
+    dead_of(s, p)
+}
+
+// "isolated for a command exactly when no row is admitted for two sessions of different tenants", or the first leaking pair.
+pub fn isolated(s: &[u8], read: Reading, table: u32, command: u32) -> Isolation
+    ensures { λ r. ⌜ (SheetRead (now (s .entry)) read → IsolatedReply (now (s .entry)) table command r) ⌝ }
+{
+    let p = posed(s, read, table, command);
+    isolated_of(s, p)
+}
+
+// N, at any size.
+pub fn branch_count(s: &[u8], read: Reading, table: u32, command: u32) -> BranchCount
+    ensures { λ r. ⌜ (SheetRead (now (s .entry)) read → BranchesReply (now (s .entry)) table command r) ⌝ }
+{
+    let p = posed(s, read, table, command);
+    count_of(s, p)
+}
