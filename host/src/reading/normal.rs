@@ -26,13 +26,17 @@ fn normal_clauses(sheet: &Sheet, clauses: &[Clause]) -> Vec<Clause> {
 
 /// Steps 2 to 5 on one clause that is met by some row and session.
 fn normal_clause(sheet: &Sheet, clause: &Clause) -> Clause {
-    let mut atoms: Clause = clause.iter().cloned().map(turned).map(bounded).collect();
-    atoms = merged(atoms);
+    // Step 5: "From last to first, drop an atom that the remaining others imply."
+    drop_from_last(tidied(clause), |atom, others| Conditions::none(sheet).with(others, Session::One).imply(atom))
+}
+
+/// Steps 2 to 4 on one clause that is met by some row and session.
+pub fn tidied(clause: &Clause) -> Clause {
+    let mut atoms = merged(clause.iter().cloned().map(turned).map(bounded).collect());
     // Step 4: "Sort atoms by their bits; drop repeats."
     atoms.sort_by_cached_key(atom_bits);
     atoms.dedup();
-    // Step 5: "From last to first, drop an atom that the remaining others imply."
-    drop_from_last(atoms, |atom, others| Conditions::none(sheet).with(others, Session::One).imply(atom))
+    atoms
 }
 
 fn atom_bits(atom: &Atom) -> BitString {
