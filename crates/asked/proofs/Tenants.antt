@@ -9,7 +9,7 @@ use Rattle.meaning.specs.Atoms.{clauseMet}
 use Rattle.asked.specs.Words.{slotOf}
 use Rattle.asked.specs.Asked.{TellsMeets, TellsLeak}
 use Rattle.asked.proofs.Shared.{answered, told-parted}
-use Rattle.asked.proofs.Ways.{words-cut, one-clause}
+use Rattle.asked.proofs.LentLaws.{words-cut, one-clause}
 
 pub meets-told : (s top : List ℕ) (n k : ℕ) (r : Bool) → k ≡ n * 11 → k ≤ length s → search.Answers (take k s) top r → TellsMeets s n top r
 meets-told s top n k r ek l h held sheet a w g u =

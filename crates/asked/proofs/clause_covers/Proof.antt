@@ -6,7 +6,7 @@ use lib.ListN.{length}
 use Rattle.meaning.specs.Views.{clauseOf}
 use Rattle.asked.specs.Words.{upTo8}
 use Rattle.asked.proofs.Laying.{upTo8-le, unmapped, no-atom}
-use Rattle.asked.proofs.Ways.{Implied, implied-none, implied-more, implied-all, implied-not}
+use Rattle.asked.proofs.CoverLaws.{Implied, implied-none, implied-more, implied-all, implied-not}
 use Rattle.asked.proofs.clause_covers.Statement.{statement}
 use Rattle.asked.proofs.clause_covers.Tie as tie
 

@@ -4,7 +4,7 @@ use Prim.Native.Nat.{_+_, _*_}
 use mathlib.Core.Path.{sym, _∙_}
 use native.Mathlib.Omega.{arith}
 use lib.Seq.{length-take-le}
-use Rattle.asked.proofs.Ways.{live-told, lays-last}
+use Rattle.asked.proofs.LentLaws.{live-told, lays-last}
 use borrow.Author.Needs.{needs}
 use Rattle.asked.proofs.meets_both.Statement.{statement}
 use Rattle.asked.proofs.meets_both.Tie as tie

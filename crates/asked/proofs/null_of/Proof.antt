@@ -1,4 +1,4 @@
-use Rattle.asked.proofs.Ways.{null-made}
+use Rattle.asked.proofs.TurnLaws.{null-made}
 use Rattle.asked.proofs.null_of.Statement.{statement}
 use Rattle.asked.proofs.null_of.Tie as tie
 

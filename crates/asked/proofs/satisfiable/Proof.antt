@@ -2,7 +2,7 @@ use Rattle.meaning.specs.Views.{clauseOf}
 use mathlib.Core.Path.{refl, sym}
 use native.Mathlib.Omega.{arith}
 use lib.Seq.{length-take-le}
-use Rattle.asked.proofs.Ways.{live-told}
+use Rattle.asked.proofs.LentLaws.{live-told}
 use borrow.Author.Needs.{needs}
 use Rattle.asked.proofs.satisfiable.Statement.{statement}
 use Rattle.asked.proofs.satisfiable.Tie as tie

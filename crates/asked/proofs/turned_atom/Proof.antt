@@ -1,6 +1,6 @@
 use mathlib.Core.Path.{refl}
 use native.Mathlib.Omega.{arith}
-use Rattle.asked.proofs.Ways.{turned-there}
+use Rattle.asked.proofs.TurnLaws.{turned-there}
 use borrow.Author.Needs.{needs}
 use Rattle.asked.proofs.turned_atom.Statement.{statement}
 use Rattle.asked.proofs.turned_atom.Tie as tie
