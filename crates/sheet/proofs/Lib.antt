@@ -3,3 +3,8 @@ pub mod TurnLaws
 pub mod AtomLaws
 pub mod SelectorLaws
 pub mod EntryLaws
+pub mod FrontLaws
+pub mod OpeningLaws
+pub mod PolicyLaws
+pub mod ServeLaws
+pub mod WholeLaws

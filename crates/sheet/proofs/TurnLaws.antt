@@ -47,6 +47,13 @@ ends-map f k (ended g) =
     ended (record { item = f (g .item); place = g .place; read = ap (λ x. onRead x (λ a o. found (f a) o)) (g .read); here = g .here; holds = k (g .item) (g .holds) })
 ends-map f k (stopped r) = stopped (ap (λ x. onRead x (λ a o. found (f a) o)) r)
 
+-- the same, where the reading itself is told
+pub ends-onto : {A B : Type 0} (m : Read A) (f : A → B) {H : A → Type 0} {K : B → Type 0} {e : End} → ((a : A) (q : ℕ) → m ≡ found a q → H a → K (f a)) → Ends m H e
+    → Ends (onRead m (λ a q. found (f a) q)) K e
+ends-onto m f k (ended g) =
+    ended (record { item = f (g .item); place = g .place; read = ap (λ x. onRead x (λ a o. found (f a) o)) (g .read); here = g .here; holds = k (g .item) (g .place) (g .read) (g .holds) })
+ends-onto m f k (stopped r) = stopped (ap (λ x. onRead x (λ a o. found (f a) o)) r)
+
 -- a count's bound
 pub at-most : {f : Field} {n high : ℕ} {q : Place} → AtMost high f → f ≡ field.Value n q → n ≤ high
 at-most {f} {n} {high} g e = subst (AtMost high) e g

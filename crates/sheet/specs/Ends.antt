@@ -8,6 +8,7 @@ use Rattle.bits.specs.Fields.{placeAt}
 use Rattle.bits.specs.declared.Place.{Place}
 use Rattle.bits.specs.declared.Field.{Field}
 use Rattle.bits.specs.declared.Field.the-variants as field
+use Rattle.meaning.specs.Values.{Kind, kindNumber}
 use Rattle.meaning.specs.Reading.{Read, found, refused, Reader, _>>=_, _>>_, give, need}
 use Rattle.meaning.specs.Reading as reading
 use Rattle.sheet.specs.declared.End.{End}
@@ -38,3 +39,15 @@ operator k = do
   need (ltb o 9) 5
   need (cond (leb 3 o && leb o 6) (eqb k 0) true) 7
   give o
+
+-- "edition other than 1" is 3: how meaning's counts begin
+unfoldable pub edition : Reader ℕ
+edition = do
+  e ← reading.field 4
+  need (eqb e 1) 3
+  give e
+
+-- a kind by its number
+abbrev pub numbered : Read Kind → Read ℕ
+numbered (found k q) = found (kindNumber k) q
+numbered (refused n) = refused n

@@ -1,2 +1,3 @@
 pub mod Directory
 pub mod Ends
+pub mod Fronts

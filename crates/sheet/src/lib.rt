@@ -11,10 +11,15 @@ pub mod atoms;
 pub mod clauses;
 pub mod entries;
 pub mod fields;
+pub mod opening;
+pub mod policy_fields;
 pub mod selectors;
+pub mod serving;
+pub mod whole;
 
 pub use clauses::clause_at;
 pub use entries::applies;
+pub use whole::read_sheet;
 
 // How many columns, keys and tables there are, and the kinds of columns (from 0) and keys (from 16), by number.
 pub struct Facts {
@@ -86,4 +91,51 @@ pub struct ClauseRead {
 pub struct Chosen {
     pub end: End,
     pub matched: bool,
+}
+
+// The counts of a sheet, zeros where they are refused.
+pub struct Counts {
+    pub end: End,
+    pub columns: u64,
+    pub keys: u64,
+    pub tables: u64,
+    pub policies: u64,
+}
+
+pub struct Kinds {
+    pub end: End,
+    pub kinds: [u8; 24],
+}
+
+pub struct TableRead {
+    pub end: End,
+    pub table: Table,
+}
+
+pub struct Tables {
+    pub end: End,
+    pub tables: [Table; 16],
+}
+
+// What stands before the policies.
+pub struct Front {
+    pub end: End,
+    pub facts: Facts,
+    pub tables: [Table; 16],
+}
+
+// Where clauses begin.
+pub struct Starts {
+    pub end: End,
+    pub starts: [usize; 8],
+}
+
+pub struct PolicyRead {
+    pub end: End,
+    pub policy: Policy,
+}
+
+pub struct Policies {
+    pub end: End,
+    pub policies: [Policy; 16],
 }

@@ -1,0 +1,106 @@
+-- `sheet::whole::fields_read` meets its contract: counts, front and policies as the definition reads them, and the sheet's end.
+use native.Mathlib.Omega.{arith}
+use mathlib.Core.Path.{refl, sym, ap, _∙_, subst}
+use Rattle.meaning.specs.Reading.{times, policy}
+use Rattle.sheet.specs.Fronts.{Closes}
+use Rattle.sheet.proofs.TurnLaws.{ends-at, ends-refused, ends-by, times-length}
+use Rattle.sheet.proofs.WholeLaws.{fields-lost, counts-stop, front-stop, policies-stop, fields-open, fields-found, described-so, wholly}
+use denote.Ref.{now}
+use borrow.Author.Needs.{needs}
+use Rattle.sheet.proofs.whole.fields_read.Statement.{statement}
+use Rattle.sheet.proofs.whole.fields_read.Tie as tie
+
+counts-at-requires : tie.Need-counts-at-requires
+counts-at-requires c κs = search needs
+
+enum-known-first : tie.Need-enum-known-first
+enum-known-first c = search needs
+
+enum-told : tie.Need-enum-told
+enum-told c = search needs
+
+refused-requires : tie.Need-refused-requires
+refused-requires c κs = search needs
+
+returns : tie.Need-returns
+returns c = fields-lost (now (c .before .before .before .before .before .args .s)) (c .refused .result .directory) (c .refused .result .outcome) (c .refused .ensures _ (c .before .enum-told .given .1)) (counts-stop (now (c .before .before .before .before .before .args .s)) (ends-refused (c .before .before .before .counts-at .ensures .0) (c .before .enum-told .given .1)))
+
+front-at-requires : tie.Need-front-at-requires
+front-at-requires c κs = c .before .before .before .counts-at .ensures .1
+
+enum-known-second : tie.Need-enum-known-second
+enum-known-second c = search needs
+
+enum-told-2 : tie.Need-enum-told-2
+enum-told-2 c = search needs
+
+refused-requires-2 : tie.Need-refused-requires-2
+refused-requires-2 c κs = search needs
+
+returns-2 : tie.Need-returns-2
+returns-2 c = let n = ends-at (c .before .before .before .before .before .before .before .before .counts-at .ensures .0) (c .before .before .before .before .before .before .first .given .1) in
+    fields-lost (now (c .before .before .before .before .before .before .before .before .before .before .args .s)) (c .refused2 .result .directory) (c .refused2 .result .outcome) (c .refused2 .ensures _ (c .before .enum-told2 .given .1)) (front-stop (now (c .before .before .before .before .before .before .before .before .before .before .args .s)) (n .read) (ends-refused (c .before .before .before .before .front-at .ensures (n .item) (n .place) (n .holds) (n .here)) (c .before .enum-told2 .given .1)))
+
+policies-at-requires : tie.Need-policies-at-requires
+policies-at-requires c κs = c .before .before .before .before .before .before .before .before .counts-at .ensures .1 .policies
+
+enum-known-third : tie.Need-enum-known-third
+enum-known-third c = search needs
+
+enum-told-3 : tie.Need-enum-told-3
+enum-told-3 c = search needs
+
+refused-requires-3 : tie.Need-refused-requires-3
+refused-requires-3 c κs = search needs
+
+returns-3 : tie.Need-returns-3
+returns-3 c = let n = ends-at (c .before .before .before .before .before .before .before .before .before .before .before .before .counts-at .ensures .0) (c .before .before .before .before .before .before .before .before .before .before .first .given .1) in
+    let f = ends-at (c .before .before .before .before .before .before .before .before .front-at .ensures (n .item) (n .place) (n .holds) (n .here)) (c .before .before .before .before .before .second .given .1) in
+    let ps = ends-by (ap (λ x. times x (policy (f .item)) (now (c .before .before .before .before .before .before .before .before .before .before .before .before .before .before .args .s)) (f .place)) (sym (n .holds .policies))) (c .before .before .before .policies-at .ensures (f .item) (f .place) (f .holds .facts) (c .before .before .before .before .before .before .before .before .before .before .before .before .before .before .pre) (f .here)) in
+    fields-lost (now (c .before .before .before .before .before .before .before .before .before .before .before .before .before .before .args .s)) (c .refused3 .result .directory) (c .refused3 .result .outcome) (c .refused3 .ensures _ (c .before .enum-told3 .given .1)) (policies-stop (now (c .before .before .before .before .before .before .before .before .before .before .before .before .before .before .args .s)) (n .read) (f .read) (ends-refused ps (c .before .enum-told3 .given .1)))
+
+closes-requires : tie.Need-closes-requires
+closes-requires c κs = search needs
+
+returns-4 : tie.Need-returns-4
+returns-4 c = let n = ends-at (c .before .before .before .before .before .before .before .before .before .before .before .before .before .before .before .before .counts-at .ensures .0) (c .before .before .before .before .before .before .before .before .before .before .before .before .before .before .first .given .1) in
+    let f = ends-at (c .before .before .before .before .before .before .before .before .before .before .before .before .front-at .ensures (n .item) (n .place) (n .holds) (n .here)) (c .before .before .before .before .before .before .before .before .before .second .given .1) in
+    let p = ends-at (ends-by (ap (λ x. times x (policy (f .item)) (now (c .before .before .before .before .before .before .before .before .before .before .before .before .before .before .before .before .before .before .args .s)) (f .place)) (sym (n .holds .policies))) (c .before .before .before .before .before .before .before .policies-at .ensures (f .item) (f .place) (f .holds .facts) (c .before .before .before .before .before .before .before .before .before .before .before .before .before .before .before .before .before .before .pre) (f .here))) (c .before .before .before .before .before .third .given .1) in (
+      wholly (f .item) (p .item),
+      _,
+      fields-found (now (c .before .before .before .before .before .before .before .before .before .before .before .before .before .before .before .before .before .before .args .s)) (n .read) (f .read) (p .read) (subst (Closes (now (c .before .before .before .before .before .before .before .before .before .before .before .before .before .before .before .before .before .before .args .s)) (p .place)) (c .before .before .if1 .taken) (c .before .before .before .closes .ensures (p .place) (p .here))),
+      described-so (f .holds) (p .holds) (n .holds .policies ∙ sym (times-length (policy (f .item)) (now (c .before .before .before .before .before .before .before .before .before .before .before .before .before .before .before .before .before .before .args .s)) (n .item .policies) (f .place) (p .item) (p .place) (p .read))),
+    )
+
+refused-requires-4 : tie.Need-refused-requires-4
+refused-requires-4 c κs = search needs
+
+returns-5 : tie.Need-returns-5
+returns-5 c = let n = ends-at (c .before .before .before .before .before .before .before .before .before .before .before .before .before .before .before .counts-at .ensures .0) (c .before .before .before .before .before .before .before .before .before .before .before .before .before .first .given .1) in
+    let f = ends-at (c .before .before .before .before .before .before .before .before .before .before .before .front-at .ensures (n .item) (n .place) (n .holds) (n .here)) (c .before .before .before .before .before .before .before .before .second .given .1) in
+    let p = ends-at (ends-by (ap (λ x. times x (policy (f .item)) (now (c .before .before .before .before .before .before .before .before .before .before .before .before .before .before .before .before .before .args .s)) (f .place)) (sym (n .holds .policies))) (c .before .before .before .before .before .before .policies-at .ensures (f .item) (f .place) (f .holds .facts) (c .before .before .before .before .before .before .before .before .before .before .before .before .before .before .before .before .before .pre) (f .here))) (c .before .before .before .before .third .given .1) in
+    fields-lost (now (c .before .before .before .before .before .before .before .before .before .before .before .before .before .before .before .before .before .args .s)) (c .refused4 .result .directory) (c .refused4 .result .outcome) (c .refused4 .ensures 10 refl) (fields-open (now (c .before .before .before .before .before .before .before .before .before .before .before .before .before .before .before .before .before .args .s)) (n .read) (f .read) (p .read) (subst (Closes (now (c .before .before .before .before .before .before .before .before .before .before .before .before .before .before .before .before .before .args .s)) (p .place)) (c .before .if1 .left) (c .before .before .closes .ensures (p .place) (p .here))))
+
+pub fields-read-spec : {M : Type 1} → statement M
+fields-read-spec =
+    tie.close
+    (tie.spec
+    counts-at-requires
+    enum-known-first
+    enum-told
+    refused-requires
+    returns
+    front-at-requires
+    enum-known-second
+    enum-told-2
+    refused-requires-2
+    returns-2
+    policies-at-requires
+    enum-known-third
+    enum-told-3
+    refused-requires-3
+    returns-3
+    closes-requires
+    returns-4
+    refused-requires-4
+    returns-5)

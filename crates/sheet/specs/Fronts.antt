@@ -1,0 +1,83 @@
+-- The front of a sheet by value: its counts and its kinds.
+use Prim.Native.Nat.{ℕ, _+_, _-_, _%_, _<_, _≤_}
+use mathlib.Core.Path.{_≡_}
+use mathlib.Core.Bool.{Bool, true, false, cond}
+use mathlib.Core.List.{List, [], _∷_}
+use lib.ListN.{length, getD}
+use Rattle.meaning.specs.Values.{Kind, integer, kindNumber}
+use Rattle.meaning.specs.Reading as m
+use Rattle.meaning.specs.Reading.{found, refused, onRead, clause, padding, nothingMore, sheetFields}
+use Rattle.meaning.specs.Atoms.{Atom}
+use Rattle.meaning.specs.Sheets as sheets
+use Rattle.meaning.specs.Sheets.{Sheet, member, second, matches, all, tableAt, columnsHeld}
+use Rattle.meaning.specs.Allowed.{factsOf}
+use Rattle.lists.specs.Lists.{numbersFrom, every}
+use lib.Dec.{ltb}
+use Rattle.sheet.specs.declared.Facts.{Facts}
+use Rattle.sheet.specs.declared.Table.{Table}
+use Rattle.sheet.specs.declared.Policy.{Policy}
+use Rattle.sheet.specs.declared.Directory.{Directory}
+use Rattle.sheet.specs.declared.Outcome.{Outcome}
+use Rattle.sheet.specs.declared.Outcome.the-variants.{Accepted, Refused}
+use Rattle.sheet.specs.Directory.{tableOf, noTable, noPolicy, FactsAre, PolicyAt, Described}
+use Rattle.sheet.specs.declared.Counts.{Counts}
+
+-- the counts that the definitions read
+pub record CountsAre (r : Counts) (n : m.Counts) : Type 0 where
+  pub columns : r .columns ≡ n .columns
+  pub keys : r .keys ≡ n .keys
+  pub tables : r .tables ≡ n .tables
+  pub policies : r .policies ≡ n .policies
+
+-- "0..16, 1..8, 1..16, 0..16": at most so many
+pub record CountsFit (r : Counts) : Type 0 where
+  pub columns : r .columns ≤ 16
+  pub keys : r .keys ≤ 8
+  pub tables : r .tables ≤ 16
+  pub policies : r .policies ≤ 16
+
+-- the kinds ks stand by their numbers in `kinds` from number `from` on, where else `kinds` is as given
+pub record KindsPut (from : ℕ) (given kinds : List ℕ) (ks : List Kind) : Type 0 where
+  pub before : (j : ℕ) → j < from → getD kinds j 0 ≡ getD given j 0
+  pub here : (j : ℕ) → j < length ks → getD kinds (from + j) 0 ≡ kindNumber (getD ks j integer)
+  pub after : (j : ℕ) → from + length ks ≤ j → getD kinds j 0 ≡ getD given j 0
+
+-- the tables of a sheet by value
+abbrev pub TablesAre : Sheet → List Table → Type 0
+TablesAre sheet ts = (t : ℕ) → t < length (sheet .tables) → tableOf (getD ts t noTable) ≡ tableAt sheet t
+
+-- a sheet without its policies by value
+pub record FrontIs (f : Facts) (ts : List Table) (sheet : Sheet) : Type 0 where
+  pub facts : FactsAre sheet f
+  pub tables : TablesAre sheet ts
+  pub bare : factsOf sheet ≡ sheet
+
+-- where clauses begin
+pub record StartsAt (s : List ℕ) (facts : Sheet) (starts : List ℕ) (cs : List (List Atom)) : Type 0 where
+  pub at : (i : ℕ) → i < length cs → (q : ℕ) × (clause facts s (getD starts i 0) ≡ found (getD cs i []) q)
+
+-- policies by value
+pub record PoliciesAt (s : List ℕ) (facts : Sheet) (ds : List Policy) (ps : List sheets.Policy) : Type 0 where
+  pub at : (i : ℕ) → i < length ps → PolicyAt s facts (getD ps i (record { restrictive = false; commands = 0; selector = all; clauses = [] })) (getD ds i noPolicy)
+
+-- "zero bits to the end of the byte and nothing more"
+abbrev pub Closes : List ℕ → ℕ → Bool → Type 0
+Closes s p r = onRead (padding s p) (λ u q. nothingMore s q) ≡ cond r (found tt (p + (8 - p % 8) % 8)) (refused 10)
+
+-- what reading every field answers
+abbrev pub FieldsRead : List ℕ → Directory → Outcome → Type 0
+FieldsRead s d Accepted = (sheet : Sheet) × (end : ℕ) × (sheetFields s 0 ≡ found sheet end) × Described s sheet d
+FieldsRead s d (Refused n) = sheetFields s 0 ≡ refused n
+
+-- Refusal 11, piece by piece: a variable that a table with these columns has, an atom, a policy's clauses, a table, a policy
+abbrev pub columnHeld : ℕ → ℕ → Bool
+columnHeld columns v = cond (ltb v 16) (member 16 columns v) true
+
+abbrev pub atomHeld : ℕ → Atom → Bool
+atomHeld columns a = every (columnHeld columns) (a .variable ∷ second (a .operator))
+
+abbrev pub tableServes : Sheet → sheets.Policy → ℕ → Bool
+tableServes sheet p t = cond (matches t (tableAt sheet t) (p .selector)) (columnsHeld (tableAt sheet t) p) true
+
+abbrev pub policyServes : Sheet → sheets.Policy → Bool
+policyServes sheet p = every (tableServes sheet p) (numbersFrom 0 (length (sheet .tables)))

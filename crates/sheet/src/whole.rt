@@ -1,0 +1,137 @@
+// The whole sheet: front, policies, the sheet's end (refusals 1 to 10), and 11.
+use crate::Directory;
+use crate::End;
+use crate::Facts;
+use crate::Outcome;
+use crate::Policy;
+use crate::Reading;
+use crate::Table;
+use crate::opening::counts_at;
+use crate::opening::front_at;
+use crate::policy_fields::policies_at;
+use crate::serving::serves;
+use bits::Place;
+use bits::peek;
+ghost use mathlib.Core.Path.{_≡_};
+ghost use Prim.Native.Nat.{ℕ, _≤_};
+ghost use lib.ListN.{length};
+ghost use Rattle.bits.specs.Fields.{placeAt};
+ghost use Rattle.sheet.specs.Directory.{SheetRead};
+ghost use Rattle.sheet.specs.Fronts.{Closes, FieldsRead};
+ghost use Rattle.sheet.specs.declared.End.the-variants as end;
+ghost use Rattle.sheet.specs.declared.Outcome.the-variants as outcome;
+
+// "After the last field come zero bits to the end of the byte and nothing more."
+fn closes(s: &[u8], at: Place) -> bool
+    requires { ⌜ length (now s) ≤ 16384 ⌝ }
+    ensures { λ r. ⌜ ((p : ℕ) → at ≡ placeAt p → Closes (now (s .entry)) p r) ⌝ }
+{
+    let byte = at.byte;
+    let bit = at.bit;
+    if s.len() <= byte {
+        return true;
+    }
+    if bit < 1 {
+        return false;
+    }
+    if byte + 1 < s.len() {
+        return false;
+    }
+    if 7 < bit {
+        return false;
+    }
+    peek(s, byte * 8 + bit, 8 - bit) == 0
+}
+
+// A refusal: its number, and zeros.
+fn refused(why: End) -> Reading
+    ensures { λ r. ⌜ ((n : ℕ) → why ≡ end.Refused n → r .outcome ≡ outcome.Refused n) ⌝ }
+{
+    let number = match why {
+        End::At(_) => 0,
+        End::Refused(n) => n,
+    };
+    let table = Table {
+        schema: 0,
+        tags: 0,
+        columns: 0,
+    };
+    let policy = Policy {
+        restrictive: false,
+        commands: 0,
+        selector: 0,
+        count: 0,
+        clauses: [0usize; 8],
+    };
+    Reading {
+        outcome: Outcome::Refused(number),
+        directory: Directory {
+            facts: Facts {
+                columns: 0,
+                keys: 0,
+                tables: 0,
+                kinds: [0u8; 24],
+            },
+            policies: 0,
+            table: [table; 16],
+            policy: [policy; 16],
+        },
+    }
+}
+
+// Every field of a sheet, in order, and its end.
+fn fields_read(s: &[u8]) -> Reading
+    requires { ⌜ length (now s) ≤ 16384 ⌝ }
+    ensures { λ r. ⌜ FieldsRead (now (s .entry)) (r .directory) (r .outcome) ⌝ }
+{
+    let n = counts_at(s);
+    let first = n.end;
+    let End::At(p) = first else {
+        return refused(first);
+    };
+    let front = front_at(s, n, p);
+    let second = front.end;
+    let facts = front.facts;
+    let End::At(q) = second else {
+        return refused(second);
+    };
+    let count = n.policies;
+    let listed = policies_at(s, q, facts, count as usize);
+    let third = listed.end;
+    let End::At(u) = third else {
+        return refused(third);
+    };
+    if closes(s, u) {
+        let table = front.tables;
+        let policy = listed.policies;
+        return Reading {
+            outcome: Outcome::Accepted,
+            directory: Directory {
+                facts: facts,
+                policies: count,
+                table: table,
+                policy: policy,
+            },
+        };
+    }
+    refused(End::Refused(10))
+}
+
+// Reads a sheet: the directory of an accepted one, or the number by which it is refused.
+pub fn read_sheet(s: &[u8]) -> Reading
+    ensures { λ r. ⌜ SheetRead (now (s .entry)) r ⌝ }
+{
+    if 16384 < s.len() {
+        return refused(End::Refused(1));
+    }
+    let got = fields_read(s);
+    let outcome = got.outcome;
+    let Outcome::Accepted = outcome else {
+        return got;
+    };
+    let d = got.directory;
+    if serves(s, d) {
+        return got;
+    }
+    refused(End::Refused(11))
+}
