@@ -8,3 +8,4 @@ pub mod OpeningLaws
 pub mod PolicyLaws
 pub mod ServeLaws
 pub mod WholeLaws
+pub mod UserLaws
