@@ -15,6 +15,7 @@ ghost use Rattle.meaning.specs.Sheets.{Sheet, Selector, policyAt};
 ghost use Rattle.meaning.specs.Packed.{tableBits, clauseBits, countBits, factBits};
 ghost use Rattle.meaning.specs.Reading.{found, selector};
 ghost use Rattle.meaning.specs.Allowed.{factsOf, TableAllowed, SheetAllowed};
+ghost use Rattle.meaning.specs.Replies.{NormalFormReply};
 ghost use Rattle.meaning.specs.Demands.{Accepted};
 ghost use Rattle.sheet.specs.Directory.{tableOf, noTable, FactsAre, PolicyAt, Described};
 ghost use Rattle.steps.specs.Lists.{kindBy};
@@ -22,10 +23,12 @@ ghost use Rattle.pruned.specs.Pruned.{Known, Fits, clausesOf, chosen, Tidied};
 ghost use Rattle.packing.specs.Wrote.{Wrote, AllInFive};
 ghost use Rattle.normal.specs.Written.{Readable, PolicyWritten, PoliciesWritten};
 use bits::Place;
+use meaning::Written;
 use pruned::Clauses;
 use sheet::Directory;
 use sheet::End;
 use sheet::Facts;
+use sheet::Outcome;
 use sheet::Policy;
 use sheet::Table;
 use steps::Values;
@@ -76,7 +79,7 @@ fn write_counts(out: &mut [u8], f: Facts, policies: u64) -> usize
 }
 
 // Everything before the policies.
-pub fn write_facts(out: &mut [u8], d: Directory) -> usize
+fn write_facts(out: &mut [u8], d: Directory) -> usize
     ensures { λ r. ⌜ ((sheet : Sheet) (s o : List ℕ) → Described s sheet d → SheetAllowed sheet → o ≡ now (out .entry) → Wrote o (countBits sheet ++ factBits sheet) (now (out .exit)) r) ⌝ }
 {
     let f = d.facts;
@@ -188,7 +191,7 @@ fn write_policy(
 }
 
 // The policies, in their order.
-pub fn write_policies(out: &mut [u8], p: usize, s: &[u8], d: Directory) -> usize
+fn write_policies(out: &mut [u8], p: usize, s: &[u8], d: Directory) -> usize
     ensures { λ r. ⌜ ((sheet : Sheet) (o bs : List ℕ) → Described (now (s .entry)) sheet d → Accepted (now (s .entry)) sheet → Wrote o bs (now (out .entry)) p → PoliciesWritten sheet (length (sheet .policies)) o bs (now (out .exit)) r) ⌝ }
 {
     let f = d.facts;
@@ -203,4 +206,22 @@ pub fn write_policies(out: &mut [u8], p: usize, s: &[u8], d: Directory) -> usize
         i += 1;
     }
     q
+}
+
+// The normal form of a packed sheet, packed into `out`.
+pub fn normal_form(sheet: &[u8], out: &mut [u8]) -> Written
+    ensures { λ r. ⌜ NormalFormReply (now (sheet .entry)) (now (out .entry)) r (now (out .exit)) ⌝ }
+{
+    let reading = sheet::read_sheet(sheet);
+    let outcome = reading.outcome;
+    let d = reading.directory;
+    if let Outcome::Refused(n) = outcome {
+        return Written::Refused(n);
+    }
+    if out.len() < sheet.len() {
+        return Written::Refused(14);
+    }
+    let a = write_facts(out, d);
+    let b = write_policies(out, a, sheet, d);
+    Written::Length(b / 8 + (b % 8 + 7) / 8)
 }
