@@ -19,7 +19,7 @@ use Rattle.meaning.proofs.ReadLaws.{read-split, need-true}
 use Rattle.sheet.specs.declared.Reading.{Reading}
 use Rattle.sheet.specs.declared.Outcome.the-variants.{Accepted, Refused}
 use Rattle.sheet.specs.Directory.{Found, Outcomes, SheetRead}
-use Rattle.rows.specs.Held.{SessionHeld, SessionRead, RowsRead}
+use Rattle.rows.specs.Held.{SessionHeld, SessionRead, isFound}
 use Rattle.listing.specs.Ready.{admitted, askedOf, Lists}
 
 module _ (s : List ℕ) (t command : ℕ) (session list out : List ℕ) where
@@ -71,21 +71,21 @@ module _ (sheet : Sheet) (t command : ℕ) (session list out : List ℕ) (before
       go (found key q) e h = (key, q, e, h .1)
       go (refused n) e h = absurd (let z : _≡_ {A = ℕ} 0 1 = cc in omega arith)
 
-  module _ (columns : ℕ) (key : Contents) (q : ℕ) (is : readSession sheet session ≡ found key q) where
+  module _ (key : Contents) (q : ℕ) (is : readSession sheet session ≡ found key q) where
     -- 15, of the row list
-    pub refused-rows : {r : Bool} → r ≡ false → RowsRead columns before after (readRows sheet (tableAt sheet t) list) r → Lists (askedOf sheet t command session list) out (Listed.Refused 15) out
+    pub refused-rows : {r : Bool} → r ≡ false → r ≡ isFound (readRows sheet (tableAt sheet t) list) → Lists (askedOf sheet t command session list) out (Listed.Refused 15) out
     unfolding askedOf
-    refused-rows not h = go (readRows sheet (tableAt sheet t) list) refl (subst (RowsRead columns before after (readRows sheet (tableAt sheet t) list)) not h)
+    refused-rows not h = go (readRows sheet (tableAt sheet t) list) refl (sym not ∙ h)
       where
-        go : (m : Read (List Row)) → readRows sheet (tableAt sheet t) list ≡ m → RowsRead columns before after m false → Lists (askedOf sheet t command session list) out (Listed.Refused 15) out
-        go (found rs p) e h = absurd (let f = h .0 in let z : _≡_ {A = ℕ} 0 1 = cc in omega arith)
+        go : (m : Read (List Row)) → readRows sheet (tableAt sheet t) list ≡ m → false ≡ isFound m → Lists (askedOf sheet t command session list) out (Listed.Refused 15) out
+        go (found rs p) e h = absurd (let z : _≡_ {A = ℕ} 0 1 = cc in omega arith)
         go (refused n) e h = rw (is, e) (refl, refl)
 
-    pub rows-read : {r : Bool} → r ≡ true → RowsRead columns before after (readRows sheet (tableAt sheet t) list) r → (rs : List Row) × (p : ℕ) × (readRows sheet (tableAt sheet t) list ≡ found rs p) × ((v : ℕ) → columns ≤ v → after v ≡ before v)
-    rows-read so h = go (readRows sheet (tableAt sheet t) list) refl (subst (RowsRead columns before after (readRows sheet (tableAt sheet t) list)) so h)
+    pub rows-read : {r : Bool} → r ≡ true → r ≡ isFound (readRows sheet (tableAt sheet t) list) → (rs : List Row) × (p : ℕ) × (readRows sheet (tableAt sheet t) list ≡ found rs p)
+    rows-read so h = go (readRows sheet (tableAt sheet t) list) refl (sym so ∙ h)
       where
-        go : (m : Read (List Row)) → readRows sheet (tableAt sheet t) list ≡ m → RowsRead columns before after m true → (rs : List Row) × (p : ℕ) × (readRows sheet (tableAt sheet t) list ≡ found rs p) × ((v : ℕ) → columns ≤ v → after v ≡ before v)
-        go (found rs p) e h = (rs, p, e, h .1)
+        go : (m : Read (List Row)) → readRows sheet (tableAt sheet t) list ≡ m → true ≡ isFound m → (rs : List Row) × (p : ℕ) × (readRows sheet (tableAt sheet t) list ≡ found rs p)
+        go (found rs p) e h = (rs, p, e)
         go (refused n) e h = absurd (let z : _≡_ {A = ℕ} 0 1 = cc in omega arith)
 
     -- else the admitted rows

@@ -10,8 +10,10 @@ use rows::are_rows;
 use rows::row_at;
 use rows::session_at;
 use sheet::Directory;
+use sheet::Outcome;
 use sheet::Policy;
 use sheet::applies;
+use sheet::read_sheet;
 ghost use mathlib.Core.Path.{_≡_};
 ghost use mathlib.Core.List.{List, map, _++_};
 ghost use Prim.Native.Nat.{ℕ, _+_, _-_, _*_, _≤_, _<_};
@@ -154,7 +156,7 @@ fn list_for(
     let mut present = [0u8; 24];
     let mut values = [0u64; 24];
     if session_at(session, keys, &kinds, &mut present, &mut values) {
-        if are_rows(rows, there, columns, &kinds, &mut present, &mut values) {
+        if are_rows(rows, there, columns, &kinds) {
             let mut plan = [0u32; 1168];
             let n = lay_policies(s, d, t, command, &mut plan);
             return list(
@@ -175,7 +177,7 @@ fn list_for(
 }
 
 // Lists of an accepted sheet: 12 and 14, then as above.
-pub fn listed(
+fn listed(
     s: &[u8],
     d: Directory,
     table: u32,
@@ -201,4 +203,17 @@ pub fn listed(
         return Listed::Refused(14);
     }
     list_for(s, d, table as usize, command as u64, session, rows, out)
+}
+
+// Lists the rows that a session may see. Refuses by number (01, "Refusal numbers"), output then untouched.
+pub fn listing(sheet: &[u8], table: u32, command: u32, session: &[u8], rows: &[u8], out: &mut [u8]) -> Listed
+    ensures { λ r. ⌜ ListingReply (now (sheet .entry)) table command (now (session .entry)) (now (rows .entry)) (now (out .entry)) r (now (out .exit)) ⌝ }
+{
+    let reading = read_sheet(sheet);
+    let outcome = reading.outcome;
+    if let Outcome::Refused(n) = outcome {
+        return Listed::Refused(n);
+    }
+    let directory = reading.directory;
+    listed(sheet, directory, table, command, session, rows, out)
 }

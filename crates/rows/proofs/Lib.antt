@@ -1,4 +1,5 @@
 pub mod ContentLaws
 pub mod FillLaws
 pub mod RowLaws
+pub mod EndLaws
 pub mod ListLaws

@@ -12,7 +12,7 @@ use Rattle.meaning.specs.Sheets.{Sheet, Table}
 use Rattle.meaning.specs.Reading.{Read, found, refused, onRead, nothingMore, Row, row, rows, readRows}
 use Rattle.rows.specs.declared.Ended.{Ended}
 use Rattle.rows.specs.declared.Ended.the-variants.{At, Lost}
-use Rattle.rows.specs.Held.{endOf, RowHeld, RowRead, RowsRead}
+use Rattle.rows.specs.Held.{endOf, isFound, RowHeld, RowRead, RowEnds}
 use Rattle.rows.proofs.RowLaws.{at-of, not-of}
 
 -- the row between two bit numbers
@@ -108,46 +108,41 @@ module _ (n : ℕ) (sheet : Sheet) (t : Table) (s : List ℕ) (p : ℕ) (before 
   pub row-refused : r ≡ Lost → (k : ℕ) × (row sheet t s p ≡ refused k)
   row-refused e = not-of (row sheet t s p) (row-end n before after r (row sheet t s p) h) e
 
--- Judging a list: the rows up to bit number p are of the form, and the variables from n on hold what they held.
-pub record Judging (n : ℕ) (sheet : Sheet) (t : Table) (s : List ℕ) (p : ℕ) (before now : Contents) : Type 0 where
+-- what the code's answer on where a row ends tells
+ends-end : (r : Ended) (m : Read Contents) → RowEnds m r → r ≡ endOf m
+ends-end r (found x q) h = h .0
+ends-end r (refused k) h = h
+
+-- Judging a list: the rows up to bit number p are of the form.
+pub record Judging (sheet : Sheet) (t : Table) (s : List ℕ) (p : ℕ) : Type 0 where
   pub done : List Row
   pub rowing : Rowing sheet t s p done
   pub whole : p % 8 ≡ 0
-  pub others : (v : ℕ) → n ≤ v → now v ≡ before v
 
-pub judging-starts : (n : ℕ) (sheet : Sheet) (t : Table) (s : List ℕ) (before : Contents) → Judging n sheet t s 0 before before
-judging-starts n sheet t s before = record { done = []; rowing = rowing-starts sheet t s; whole = refl; others = λ v l. refl }
+pub judging-starts : (sheet : Sheet) (t : Table) (s : List ℕ) → Judging sheet t s 0
+judging-starts sheet t s = record { done = []; rowing = rowing-starts sheet t s; whole = refl }
 
--- a list that is not of the form
-refuses : (n : ℕ) (sheet : Sheet) (t : Table) (s : List ℕ) (before after : Contents) {k : ℕ} → readRows sheet t s ≡ refused k → RowsRead n before after (readRows sheet t s) false
-refuses n sheet t s before after e = subst (λ m. RowsRead n before after m false) (sym e) refl
+pub judged-long : (sheet : Sheet) (t : Table) (s : List ℕ) → 65536 < length s → false ≡ isFound (readRows sheet t s)
+judged-long sheet t s h = sym (ap isFound (list-long sheet t s h))
 
-pub judged-long : (n : ℕ) (sheet : Sheet) (t : Table) (s : List ℕ) (before after : Contents) → 65536 < length s → RowsRead n before after (readRows sheet t s) false
-judged-long n sheet t s before after h = refuses n sheet t s before after (list-long sheet t s h)
+module _ (sheet : Sheet) (t : Table) (s : List ℕ) (p : ℕ) (short : length s ≤ 65536) (g : Judging sheet t s p) where
+  pub judged-all : length s ≤ p / 8 → true ≡ isFound (readRows sheet t s)
+  judged-all h = sym (ap isFound (list-short sheet t s short ∙ rowing-ends sheet t s p (g .done) (g .rowing) h))
 
-module _ (n : ℕ) (sheet : Sheet) (t : Table) (s : List ℕ) (p : ℕ) (before now : Contents) (short : length s ≤ 65536) (g : Judging n sheet t s p before now) where
-  pub judged-all : length s ≤ p / 8 → RowsRead n before now (readRows sheet t s) true
-  judged-all h = subst (λ m. RowsRead n before now m true) (sym (list-short sheet t s short ∙ rowing-ends sheet t s p (g .done) (g .rowing) h)) (refl, g .others)
+  module _ (h : p / 8 < length s) (r : Ended) (read : RowEnds (row sheet t s p) r) where
+    pub judged-lost : r ≡ Lost → false ≡ isFound (readRows sheet t s)
+    judged-lost e = sym (ap isFound (list-short sheet t s short ∙ rowing-lost sheet t s p (g .done) (g .rowing) h (not-of (row sheet t s p) (ends-end r (row sheet t s p) read) e .1)))
 
-  module _ (h : p / 8 < length s) (after : Contents) (r : Ended) (read : RowRead n now after (row sheet t s p) r) where
-    pub judged-lost : r ≡ Lost → RowsRead n before after (readRows sheet t s) false
-    judged-lost e = refuses n sheet t s before after (list-short sheet t s short ∙ rowing-lost sheet t s p (g .done) (g .rowing) h (row-refused n sheet t s p now after r read e .1))
-
-    pub judged-stuck : {q : ℕ} → r ≡ At q → p ≤ q → q ≤ p → RowsRead n before after (readRows sheet t s) false
+    pub judged-stuck : {q : ℕ} → r ≡ At q → p ≤ q → q ≤ p → false ≡ isFound (readRows sheet t s)
     judged-stuck {q} e l m =
-        let x = row-found n sheet t s p now after r read e in
+        let x = at-of (row sheet t s p) (ends-end r (row sheet t s p) read) e in
         let same : q ≡ p = omega arith in
         let i = rowing-stuck sheet t s p (g .done) (g .rowing) h (x .1 ∙ ap (found (x .0)) same) in
-        refuses n sheet t s before after (list-short sheet t s short ∙ i .1)
+        sym (ap isFound (list-short sheet t s short ∙ i .1))
 
-    pub judging-on : {q : ℕ} → r ≡ At q → p < q → Judging n sheet t s q before after
+    pub judging-on : {q : ℕ} → r ≡ At q → p < q → Judging sheet t s q
     judging-on {q} e l =
-        let x = row-found n sheet t s p now after r read e in
+        let x = at-of (row sheet t s p) (ends-end r (row sheet t s p) read) e in
         let a = g .whole in
-        let b = x .2 .whole in
-        record {
-          done = g .done ++ (rowAt s p q (x .0) ∷ []);
-          rowing = rowing-on sheet t s p (g .done) (g .rowing) h (x .1) (omega arith);
-          whole = b;
-          others = λ v m. x .2 .others v m ∙ g .others v m;
-        }
+        let b = subst (λ m. RowEnds m r) (x .1) read .1 in
+        record { done = g .done ++ (rowAt s p q (x .0) ∷ []); rowing = rowing-on sheet t s p (g .done) (g .rowing) h (x .1) (omega arith); whole = b }

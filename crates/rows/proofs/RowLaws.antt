@@ -50,7 +50,7 @@ module _ (s : List ℕ) (p : ℕ) where
   unfolding padding
   padded-one bit z = simp (ne-eqb (number s p w) 0 (λ e. z (bit ∙ e)))
 
-  padding-ends : (u : Unit {0}) (q : ℕ) → padding s p ≡ found u q → q % 8 ≡ 0
+  pub padding-ends : (u : Unit {0}) (q : ℕ) → padding s p ≡ found u q → q % 8 ≡ 0
   unfolding padding
   padding-ends u q e = go (eqb (number s p w) 0) e
     where

@@ -9,7 +9,7 @@ use Rattle.meaning.specs.declared.Content.{Content}
 use Rattle.meaning.specs.declared.Content.the-variants.{Null, Value}
 use Rattle.meaning.specs.Values.{Kind, integer, kindNumber, Contents}
 use Rattle.meaning.specs.Sheets.{member}
-use Rattle.meaning.specs.Reading.{Read, found, refused, Row}
+use Rattle.meaning.specs.Reading.{Read, found, refused}
 use Rattle.rows.specs.declared.ContentRead.{ContentRead}
 use Rattle.rows.specs.declared.ContentRead.the-variants.{Found, Lost}
 use Rattle.rows.specs.declared.Ended.{Ended}
@@ -72,6 +72,11 @@ abbrev pub RowRead : ℕ → Contents → Contents → Read Contents → Ended �
 RowRead n before after (found x q) r = (r ≡ ended.At q) × RowHeld n q x before after
 RowRead n before after (refused k) r = r ≡ ended.Lost
 
+-- where a row ends: on a byte
+abbrev pub RowEnds : Read Contents → Ended → Type 0
+RowEnds (found x q) r = (r ≡ ended.At q) × (q % 8 ≡ 0)
+RowEnds (refused k) r = r ≡ ended.Lost
+
 -- what reading a session answers, and what the variables hold after it: the session's keys, the columns as before
 pub record SessionHeld (key before after : Contents) : Type 0 where
   pub keys : (v : ℕ) → 16 ≤ v → ((u : ℕ) → 16 ≤ u → before u ≡ Null) → after v ≡ key (v - 16)
@@ -81,7 +86,7 @@ abbrev pub SessionRead : Contents → Contents → Read Contents → Bool → Ty
 SessionRead before after (found key q) r = (r ≡ true) × SessionHeld key before after
 SessionRead before after (refused k) r = r ≡ false
 
--- what judging a row list answers; the variables from number n on hold what they held
-abbrev pub RowsRead : ℕ → Contents → Contents → Read (List Row) → Bool → Type 0
-RowsRead n before after (found rs q) r = (r ≡ true) × ((v : ℕ) → n ≤ v → after v ≡ before v)
-RowsRead n before after (refused k) r = r ≡ false
+-- what judging a row list answers
+abbrev pub isFound : {A : Type 0} → Read A → Bool
+isFound (found a q) = true
+isFound (refused n) = false

@@ -16,7 +16,7 @@ ghost use Rattle.bits.specs.Bits.{number};
 ghost use Rattle.meaning.specs.Values.{Kind, kindNumber};
 ghost use Rattle.meaning.specs.Sheets.{Sheet, Table, holds};
 ghost use Rattle.meaning.specs.Reading.{content, contents, padding, row, readSession, readRows};
-ghost use Rattle.rows.specs.Held.{contentFound, endedBy, within, endOf, held, Cells, Fields, ContentsRead, RowRead, SessionRead, RowsRead};
+ghost use Rattle.rows.specs.Held.{contentFound, endedBy, within, endOf, held, Cells, Fields, ContentsRead, RowRead, RowEnds, SessionRead, isFound};
 
 // What reading a content finds: the content with the bit number after it, or it is not of the form.
 pub enum ContentRead {
@@ -166,24 +166,74 @@ pub fn session_at(
     s.len() <= q / 8
 }
 
-// A whole row list: is it of the form? What the variables hold of its rows is left in the arrays.
-pub fn are_rows(
-    s: &[u8],
-    there: u64,
-    n: usize,
-    kinds: &[u8; 24],
-    present: &mut [u8; 24],
-    values: &mut [u64; 24],
-) -> bool
-    requires { ⌜ (n ≤ 16) × Cells (now present) (now values) ⌝ }
-    ensures { λ r. ⌜ Cells (now (present .exit)) (now (values .exit)) × (r ≡ true → length (now (s .entry)) ≤ 65536) × ((sheet : Sheet) (t : Table) → Fields there 0 n (now (kinds .entry)) (holds t) (sheet .columns) → RowsRead n (held (now (present .entry)) (now (values .entry))) (held (now (present .exit)) (now (values .exit))) (readRows sheet t (now (s .entry))) r) ⌝ }
+// Where the content of a kind at bit number p ends. Every 64 bits are an integer, so its bits are not looked at.
+fn content_end(s: &[u8], p: usize, kind: u8) -> Ended
+    requires { ⌜ p ≤ 2 ^ 32 ⌝ }
+    ensures { λ r. ⌜ within p (p + 65) (length (now (s .entry)) * 8) r × ((k : Kind) → kindNumber k ≡ kind → r ≡ endOf (content k (now (s .entry)) p)) ⌝ }
+{
+    if s.len() <= p / 8 {
+        return Ended::Lost;
+    }
+    if bit_at(s, p) == 0 {
+        return Ended::At(p + 1);
+    }
+    if s.len() < (p + 72) / 8 {
+        return Ended::Lost;
+    }
+    if kind == 0 {
+        return Ended::At(p + 65);
+    }
+    if raw_of(kind, peek64(s, p + 1)) <= last_of(kind) {
+        return Ended::At(p + 65);
+    }
+    Ended::Lost
+}
+
+// Where the contents of the sheet's n columns end, those that `there` names.
+fn contents_end(s: &[u8], from: usize, there: u64, n: usize, kinds: &[u8; 24]) -> Ended
+    requires { ⌜ (from ≤ 2 ^ 31) × (from ≤ length (now s) * 8) × (n ≤ 16) ⌝ }
+    ensures { λ r. ⌜ within from (from + 65 * n) (length (now (s .entry)) * 8) r × ((f : ℕ → Bool) (ks : List Kind) → Fields there 0 n (now (kinds .entry)) f ks → r ≡ endOf (contents f 0 ks (now (s .entry)) from)) ⌝ }
+{
+    let mut p = from;
+    let mut c: usize = 0;
+    while c < n {
+        if (there >> (15 - c)) % 2 == 1 {
+            let got = content_end(s, p, kinds[c]);
+            let Ended::At(next) = got else {
+                return Ended::Lost;
+            };
+            p = next;
+            c += 1;
+            continue;
+        }
+        c += 1;
+    }
+    Ended::At(p)
+}
+
+// Where the row at bit number `from` ends.
+fn row_end(s: &[u8], from: usize, there: u64, n: usize, kinds: &[u8; 24]) -> Ended
+    requires { ⌜ (from ≤ 2 ^ 31) × (from ≤ length (now s) * 8) × (n ≤ 16) ⌝ }
+    ensures { λ r. ⌜ within from (from + 65 * n + 7) (length (now (s .entry)) * 8) r × ((sheet : Sheet) (t : Table) → Fields there 0 n (now (kinds .entry)) (holds t) (sheet .columns) → RowEnds (row sheet t (now (s .entry)) from) r) ⌝ }
+{
+    let end = contents_end(s, from, there, n, kinds);
+    let Ended::At(p) = end else {
+        return Ended::Lost;
+    };
+    padded(s, p)
+}
+
+// A whole row list: is it of the form?
+pub fn are_rows(s: &[u8], there: u64, n: usize, kinds: &[u8; 24]) -> bool
+    requires { ⌜ n ≤ 16 ⌝ }
+    ensures { λ r. ⌜ (r ≡ true → length (now (s .entry)) ≤ 65536) × ((sheet : Sheet) (t : Table) → Fields there 0 n (now (kinds .entry)) (holds t) (sheet .columns) → r ≡ isFound (readRows sheet t (now (s .entry)))) ⌝ }
 {
     if 65536 < s.len() {
         return false;
     }
     let mut p: usize = 0;
     while p / 8 < s.len() {
-        let end = row_at(s, p, there, n, kinds, present, values);
+        let end = row_end(s, p, there, n, kinds);
         let Ended::At(q) = end else {
             return false;
         };

@@ -33,7 +33,7 @@ lay-policies-requires c κs = search needs
 list-requires : tie.Need-list-requires
 list-requires c κs =
     let plan = c .before .before .before .before .before .lay-policies .ensures in
-    (plan .1, plan .0, c .before .before .before .before .before .before .before .before .before .before .before .before .before .before .before .before .before .before .before .up-to2 .ensures .0, c .before .before .before .before .before .before .before .before .are-rows .ensures .1 (c .before .before .before .before .before .before .before .if2 .taken), c .before .before .before .before .before .before .before .before .before .before .before .before .before .before .before .before .before .before .before .before .before .before .before .before .before .before .before .pre .1, c .before .before .before .before .before .before .before .before .are-rows .ensures .0)
+    (plan .1, plan .0, c .before .before .before .before .before .before .before .before .before .before .before .before .before .before .before .before .before .up-to2 .ensures .0, c .before .before .before .before .before .before .before .before .are-rows .ensures .0 (c .before .before .before .before .before .before .before .if2 .taken), c .before .before .before .before .before .before .before .before .before .before .before .before .before .before .before .before .before .before .before .before .before .before .before .before .before .pre .1, c .before .before .before .before .before .before .before .before .before .before .before .session-at .ensures .0)
 
 same-length : tie.Need-same-length
 same-length c = search needs
@@ -41,18 +41,18 @@ same-length c = search needs
 returns : tie.Need-returns
 returns c =
     λ sheet l D A h.
-    let S = session-read sheet (c .before .before .before .before .before .before .before .before .before .before .before .before .before .before .before .before .before .before .before .before .before .before .before .before .before .before .before .before .before .before .args .t) (c .before .before .before .before .before .before .before .before .before .before .before .before .before .before .before .before .before .before .before .before .before .before .before .before .before .before .before .before .before .before .args .command) (c .before .before .before .before .before .before .before .before .before .before .before .before .before .before .before .before .before .before .before .before .before .before .before .before .before .before .before .before .before .before .args .session .now) (c .before .before .before .before .before .before .before .before .before .before .before .before .before .before .before .before .before .before .before .before .before .before .before .before .before .before .before .before .before .before .args .rows .now) (c .before .before .before .before .before .before .before .before .before .before .before .before .before .before .before .before .before .before .before .before .before .before .before .before .before .before .before .before .before .before .args .out .now) (held (replicate 24 0) (replicate 24 0)) (held (c .before .before .before .before .before .before .before .before .before .before .before .before .before .before .before .before .session-at .last .1 .1 .1 .0) (c .before .before .before .before .before .before .before .before .before .before .before .before .before .before .before .before .session-at .last .1 .1 .1 .1 .0)) (c .before .before .before .before .before .before .before .before .before .before .before .before .before .before .before .if1 .taken) (c .before .before .before .before .before .before .before .before .before .before .before .before .before .before .before .before .session-at .ensures .1 sheet (session-fields _ sheet (c .before .before .before .before .before .before .before .before .before .before .before .before .before .before .before .before .before .before .before .before .before .before .before .before .before .before .before .before .before .before .args .d) D A (c .before .before .before .before .before .before .before .before .before .before .before .before .before .before .before .before .before .before .before .before .before .before .before .up-to .result) (c .before .before .before .before .before .before .before .before .before .before .before .before .before .before .before .before .before .before .before .before .before .before .before .up-to .ensures .1))) in
-    let F = row-fields _ sheet (c .before .before .before .before .before .before .before .before .before .before .before .before .before .before .before .before .before .before .before .before .before .before .before .before .before .before .before .before .before .before .args .d) D A (c .before .before .before .before .before .before .before .before .before .before .before .before .before .before .before .before .before .before .before .before .before .before .before .before .before .before .before .before .before .before .args .t) (c .before .before .before .before .before .before .before .before .before .before .before .before .before .before .before .before .before .before .before .before .before .before .up-to2 .result) _ h (c .before .before .before .before .before .before .before .before .before .before .before .before .before .before .before .before .before .before .before .before .before .before .up-to2 .ensures .1) refl in
-    let R = rows-read sheet (c .before .before .before .before .before .before .before .before .before .before .before .before .before .before .before .before .before .before .before .before .before .before .before .before .before .before .before .before .before .before .args .t) (c .before .before .before .before .before .before .before .before .before .before .before .before .before .before .before .before .before .before .before .before .before .before .before .before .before .before .before .before .before .before .args .command) (c .before .before .before .before .before .before .before .before .before .before .before .before .before .before .before .before .before .before .before .before .before .before .before .before .before .before .before .before .before .before .args .session .now) (c .before .before .before .before .before .before .before .before .before .before .before .before .before .before .before .before .before .before .before .before .before .before .before .before .before .before .before .before .before .before .args .rows .now) (c .before .before .before .before .before .before .before .before .before .before .before .before .before .before .before .before .before .before .before .before .before .before .before .before .before .before .before .before .before .before .args .out .now) (held (c .before .before .before .before .before .before .before .before .before .before .before .before .before .before .before .before .session-at .last .1 .1 .1 .0) (c .before .before .before .before .before .before .before .before .before .before .before .before .before .before .before .before .session-at .last .1 .1 .1 .1 .0)) (held (c .before .before .before .before .before .before .before .before .before .before .before .are-rows .last .1 .1 .1 .1 .0) (c .before .before .before .before .before .before .before .before .before .before .before .are-rows .last .1 .1 .1 .1 .1 .0)) (c .before .before .before .before .before .before .before .before .before .before .before .before .before .before .before .before .before .before .before .before .before .before .up-to2 .result) (S .0) (S .1) (S .2) (c .before .before .before .before .before .before .before .before .before .before .if2 .taken) (c .before .before .before .before .before .before .before .before .before .before .before .are-rows .ensures .2 sheet (tableAt sheet (c .before .before .before .before .before .before .before .before .before .before .before .before .before .before .before .before .before .before .before .before .before .before .before .before .before .before .before .before .before .before .args .t)) F) in
-    let ready = made-ready _ sheet (c .before .before .before .before .before .before .before .before .before .before .before .before .before .before .before .before .before .before .before .before .before .before .before .before .before .before .before .before .before .before .args .d) D A _ _ _ _ _ _ (S .0) (held (replicate 24 0) (replicate 24 0)) (held (c .before .before .before .before .before .before .before .before .before .before .before .before .before .before .before .before .session-at .last .1 .1 .1 .0) (c .before .before .before .before .before .before .before .before .before .before .before .before .before .before .before .before .session-at .last .1 .1 .1 .1 .0)) (held (c .before .before .before .before .before .before .before .before .before .before .before .are-rows .last .1 .1 .1 .1 .0) (c .before .before .before .before .before .before .before .before .before .before .before .are-rows .last .1 .1 .1 .1 .1 .0)) F (c .before .before .before .before .before .before .before .before .lay-policies .ensures .2 sheet l D A h) (all-null 24 (replicate 24 0)) (S .3) (R .3) in
-    rows-asked sheet (c .before .before .before .before .before .before .before .before .before .before .before .before .before .before .before .before .before .before .before .before .before .before .before .before .before .before .before .before .before .before .args .t) (c .before .before .before .before .before .before .before .before .before .before .before .before .before .before .before .before .before .before .before .before .before .before .before .before .before .before .before .before .before .before .args .command) (c .before .before .before .before .before .before .before .before .before .before .before .before .before .before .before .before .before .before .before .before .before .before .before .before .before .before .before .before .before .before .args .session .now) (c .before .before .before .before .before .before .before .before .before .before .before .before .before .before .before .before .before .before .before .before .before .before .before .before .before .before .before .before .before .before .args .rows .now) (c .before .before .before .before .before .before .before .before .before .before .before .before .before .before .before .before .before .before .before .before .before .before .before .before .before .before .before .before .before .before .args .out .now) (held (c .before .before .before .before .before .before .before .before .before .before .before .before .before .before .before .before .session-at .last .1 .1 .1 .0) (c .before .before .before .before .before .before .before .before .before .before .before .before .before .before .before .before .session-at .last .1 .1 .1 .1 .0)) (held (c .before .before .before .before .before .before .before .before .before .before .before .are-rows .last .1 .1 .1 .1 .0) (c .before .before .before .before .before .before .before .before .before .before .before .are-rows .last .1 .1 .1 .1 .1 .0)) (c .before .before .before .before .before .before .before .before .before .before .before .before .before .before .before .before .before .before .before .before .before .before .up-to2 .result) (S .0) (S .1) (S .2) (R .0) (R .1) (R .2) _ _ (c .before .before .list .ensures sheet (c .before .before .before .before .before .before .before .before .before .before .before .before .before .before .before .before .before .before .before .before .before .before .before .before .before .before .before .before .before .before .args .t) (c .before .before .before .before .before .before .before .before .before .before .before .before .before .before .before .before .before .before .before .before .before .before .before .before .before .before .before .before .before .before .args .command) (S .0) (R .0) (R .1) ready (R .2))
+    let S = session-read sheet (c .before .before .before .before .before .before .before .before .before .before .before .before .before .before .before .before .before .before .before .before .before .before .before .before .before .before .before .before .args .t) (c .before .before .before .before .before .before .before .before .before .before .before .before .before .before .before .before .before .before .before .before .before .before .before .before .before .before .before .before .args .command) (c .before .before .before .before .before .before .before .before .before .before .before .before .before .before .before .before .before .before .before .before .before .before .before .before .before .before .before .before .args .session .now) (c .before .before .before .before .before .before .before .before .before .before .before .before .before .before .before .before .before .before .before .before .before .before .before .before .before .before .before .before .args .rows .now) (c .before .before .before .before .before .before .before .before .before .before .before .before .before .before .before .before .before .before .before .before .before .before .before .before .before .before .before .before .args .out .now) (held (replicate 24 0) (replicate 24 0)) (held (c .before .before .before .before .before .before .before .before .before .before .before .before .before .before .session-at .last .1 .1 .1 .0) (c .before .before .before .before .before .before .before .before .before .before .before .before .before .before .session-at .last .1 .1 .1 .1 .0)) (c .before .before .before .before .before .before .before .before .before .before .before .before .before .if1 .taken) (c .before .before .before .before .before .before .before .before .before .before .before .before .before .before .session-at .ensures .1 sheet (session-fields _ sheet (c .before .before .before .before .before .before .before .before .before .before .before .before .before .before .before .before .before .before .before .before .before .before .before .before .before .before .before .before .args .d) D A (c .before .before .before .before .before .before .before .before .before .before .before .before .before .before .before .before .before .before .before .before .before .up-to .result) (c .before .before .before .before .before .before .before .before .before .before .before .before .before .before .before .before .before .before .before .before .before .up-to .ensures .1))) in
+    let F = row-fields _ sheet (c .before .before .before .before .before .before .before .before .before .before .before .before .before .before .before .before .before .before .before .before .before .before .before .before .before .before .before .before .args .d) D A (c .before .before .before .before .before .before .before .before .before .before .before .before .before .before .before .before .before .before .before .before .before .before .before .before .before .before .before .before .args .t) (c .before .before .before .before .before .before .before .before .before .before .before .before .before .before .before .before .before .before .before .before .up-to2 .result) _ h (c .before .before .before .before .before .before .before .before .before .before .before .before .before .before .before .before .before .before .before .before .up-to2 .ensures .1) refl in
+    let R = rows-read sheet (c .before .before .before .before .before .before .before .before .before .before .before .before .before .before .before .before .before .before .before .before .before .before .before .before .before .before .before .before .args .t) (c .before .before .before .before .before .before .before .before .before .before .before .before .before .before .before .before .before .before .before .before .before .before .before .before .before .before .before .before .args .command) (c .before .before .before .before .before .before .before .before .before .before .before .before .before .before .before .before .before .before .before .before .before .before .before .before .before .before .before .before .args .session .now) (c .before .before .before .before .before .before .before .before .before .before .before .before .before .before .before .before .before .before .before .before .before .before .before .before .before .before .before .before .args .rows .now) (c .before .before .before .before .before .before .before .before .before .before .before .before .before .before .before .before .before .before .before .before .before .before .before .before .before .before .before .before .args .out .now) (held (replicate 24 0) (replicate 24 0)) (held (c .before .before .before .before .before .before .before .before .before .before .before .before .before .before .session-at .last .1 .1 .1 .0) (c .before .before .before .before .before .before .before .before .before .before .before .before .before .before .session-at .last .1 .1 .1 .1 .0)) (S .0) (S .1) (S .2) (c .before .before .before .before .before .before .before .before .before .before .if2 .taken) (c .before .before .before .before .before .before .before .before .before .before .before .are-rows .ensures .1 sheet (tableAt sheet (c .before .before .before .before .before .before .before .before .before .before .before .before .before .before .before .before .before .before .before .before .before .before .before .before .before .before .before .before .args .t)) F) in
+    let ready = made-ready _ sheet (c .before .before .before .before .before .before .before .before .before .before .before .before .before .before .before .before .before .before .before .before .before .before .before .before .before .before .before .before .args .d) D A _ _ _ _ _ _ (S .0) (held (replicate 24 0) (replicate 24 0)) (held (c .before .before .before .before .before .before .before .before .before .before .before .before .before .before .session-at .last .1 .1 .1 .0) (c .before .before .before .before .before .before .before .before .before .before .before .before .before .before .session-at .last .1 .1 .1 .1 .0)) (held (c .before .before .before .before .before .before .before .before .before .before .before .before .before .before .session-at .last .1 .1 .1 .0) (c .before .before .before .before .before .before .before .before .before .before .before .before .before .before .session-at .last .1 .1 .1 .1 .0)) F (c .before .before .before .before .before .before .before .before .lay-policies .ensures .2 sheet l D A h) (all-null 24 (replicate 24 0)) (S .3) (λ v k. refl) in
+    rows-asked sheet (c .before .before .before .before .before .before .before .before .before .before .before .before .before .before .before .before .before .before .before .before .before .before .before .before .before .before .before .before .args .t) (c .before .before .before .before .before .before .before .before .before .before .before .before .before .before .before .before .before .before .before .before .before .before .before .before .before .before .before .before .args .command) (c .before .before .before .before .before .before .before .before .before .before .before .before .before .before .before .before .before .before .before .before .before .before .before .before .before .before .before .before .args .session .now) (c .before .before .before .before .before .before .before .before .before .before .before .before .before .before .before .before .before .before .before .before .before .before .before .before .before .before .before .before .args .rows .now) (c .before .before .before .before .before .before .before .before .before .before .before .before .before .before .before .before .before .before .before .before .before .before .before .before .before .before .before .before .args .out .now) (held (replicate 24 0) (replicate 24 0)) (held (c .before .before .before .before .before .before .before .before .before .before .before .before .before .before .session-at .last .1 .1 .1 .0) (c .before .before .before .before .before .before .before .before .before .before .before .before .before .before .session-at .last .1 .1 .1 .1 .0)) (S .0) (S .1) (S .2) (R .0) (R .1) (R .2) _ _ (c .before .before .list .ensures sheet (c .before .before .before .before .before .before .before .before .before .before .before .before .before .before .before .before .before .before .before .before .before .before .before .before .before .before .before .before .args .t) (c .before .before .before .before .before .before .before .before .before .before .before .before .before .before .before .before .before .before .before .before .before .before .before .before .before .before .before .before .args .command) (S .0) (R .0) (R .1) ready (R .2))
 
 returns-2 : tie.Need-returns-2
 returns-2 c =
     λ sheet l D A h.
-    let S = session-read sheet (c .before .before .before .before .before .before .before .before .before .before .before .before .before .before .before .before .before .before .before .before .args .t) (c .before .before .before .before .before .before .before .before .before .before .before .before .before .before .before .before .before .before .before .before .args .command) (c .before .before .before .before .before .before .before .before .before .before .before .before .before .before .before .before .before .before .before .before .args .session .now) (c .before .before .before .before .before .before .before .before .before .before .before .before .before .before .before .before .before .before .before .before .args .rows .now) (c .before .before .before .before .before .before .before .before .before .before .before .before .before .before .before .before .before .before .before .before .args .out .now) (held (replicate 24 0) (replicate 24 0)) (held (c .before .before .before .before .before .before .session-at .last .1 .1 .1 .0) (c .before .before .before .before .before .before .session-at .last .1 .1 .1 .1 .0)) (c .before .before .before .before .before .if1 .taken) (c .before .before .before .before .before .before .session-at .ensures .1 sheet (session-fields _ sheet (c .before .before .before .before .before .before .before .before .before .before .before .before .before .before .before .before .before .before .before .before .args .d) D A (c .before .before .before .before .before .before .before .before .before .before .before .before .before .up-to .result) (c .before .before .before .before .before .before .before .before .before .before .before .before .before .up-to .ensures .1))) in
-    let F = row-fields _ sheet (c .before .before .before .before .before .before .before .before .before .before .before .before .before .before .before .before .before .before .before .before .args .d) D A (c .before .before .before .before .before .before .before .before .before .before .before .before .before .before .before .before .before .before .before .before .args .t) (c .before .before .before .before .before .before .before .before .before .before .before .before .up-to2 .result) _ h (c .before .before .before .before .before .before .before .before .before .before .before .before .up-to2 .ensures .1) refl in
-    refused-rows sheet (c .before .before .before .before .before .before .before .before .before .before .before .before .before .before .before .before .before .before .before .before .args .t) (c .before .before .before .before .before .before .before .before .before .before .before .before .before .before .before .before .before .before .before .before .args .command) (c .before .before .before .before .before .before .before .before .before .before .before .before .before .before .before .before .before .before .before .before .args .session .now) (c .before .before .before .before .before .before .before .before .before .before .before .before .before .before .before .before .before .before .before .before .args .rows .now) (c .before .before .before .before .before .before .before .before .before .before .before .before .before .before .before .before .before .before .before .before .args .out .now) (held (c .before .before .before .before .before .before .session-at .last .1 .1 .1 .0) (c .before .before .before .before .before .before .session-at .last .1 .1 .1 .1 .0)) (held (c .before .are-rows .last .1 .1 .1 .1 .0) (c .before .are-rows .last .1 .1 .1 .1 .1 .0)) (c .before .before .before .before .before .before .before .before .before .before .before .before .up-to2 .result) (S .0) (S .1) (S .2) (c .if2 .left) (c .before .are-rows .ensures .2 sheet (tableAt sheet (c .before .before .before .before .before .before .before .before .before .before .before .before .before .before .before .before .before .before .before .before .args .t)) F)
+    let S = session-read sheet (c .before .before .before .before .before .before .before .before .before .before .before .before .before .before .before .before .before .before .args .t) (c .before .before .before .before .before .before .before .before .before .before .before .before .before .before .before .before .before .before .args .command) (c .before .before .before .before .before .before .before .before .before .before .before .before .before .before .before .before .before .before .args .session .now) (c .before .before .before .before .before .before .before .before .before .before .before .before .before .before .before .before .before .before .args .rows .now) (c .before .before .before .before .before .before .before .before .before .before .before .before .before .before .before .before .before .before .args .out .now) (held (replicate 24 0) (replicate 24 0)) (held (c .before .before .before .before .session-at .last .1 .1 .1 .0) (c .before .before .before .before .session-at .last .1 .1 .1 .1 .0)) (c .before .before .before .if1 .taken) (c .before .before .before .before .session-at .ensures .1 sheet (session-fields _ sheet (c .before .before .before .before .before .before .before .before .before .before .before .before .before .before .before .before .before .before .args .d) D A (c .before .before .before .before .before .before .before .before .before .before .before .up-to .result) (c .before .before .before .before .before .before .before .before .before .before .before .up-to .ensures .1))) in
+    let F = row-fields _ sheet (c .before .before .before .before .before .before .before .before .before .before .before .before .before .before .before .before .before .before .args .d) D A (c .before .before .before .before .before .before .before .before .before .before .before .before .before .before .before .before .before .before .args .t) (c .before .before .before .before .before .before .before .before .before .before .up-to2 .result) _ h (c .before .before .before .before .before .before .before .before .before .before .up-to2 .ensures .1) refl in
+    refused-rows sheet (c .before .before .before .before .before .before .before .before .before .before .before .before .before .before .before .before .before .before .args .t) (c .before .before .before .before .before .before .before .before .before .before .before .before .before .before .before .before .before .before .args .command) (c .before .before .before .before .before .before .before .before .before .before .before .before .before .before .before .before .before .before .args .session .now) (c .before .before .before .before .before .before .before .before .before .before .before .before .before .before .before .before .before .before .args .rows .now) (c .before .before .before .before .before .before .before .before .before .before .before .before .before .before .before .before .before .before .args .out .now) (held (replicate 24 0) (replicate 24 0)) (held (c .before .before .before .before .session-at .last .1 .1 .1 .0) (c .before .before .before .before .session-at .last .1 .1 .1 .1 .0)) (S .0) (S .1) (S .2) (c .if2 .left) (c .before .are-rows .ensures .1 sheet (tableAt sheet (c .before .before .before .before .before .before .before .before .before .before .before .before .before .before .before .before .before .before .args .t)) F)
 
 returns-3 : tie.Need-returns-3
 returns-3 c = λ sheet l D A h. refused-session sheet (c .before .before .before .before .before .before .before .before .before .before .before .before .before .before .before .args .t) (c .before .before .before .before .before .before .before .before .before .before .before .before .before .before .before .args .command) (c .before .before .before .before .before .before .before .before .before .before .before .before .before .before .before .args .session .now) (c .before .before .before .before .before .before .before .before .before .before .before .before .before .before .before .args .rows .now) (c .before .before .before .before .before .before .before .before .before .before .before .before .before .before .before .args .out .now) (held (replicate 24 0) (replicate 24 0)) (held (c .before .session-at .last .1 .1 .1 .0) (c .before .session-at .last .1 .1 .1 .1 .0)) (c .if1 .left) (c .before .session-at .ensures .1 sheet (session-fields _ sheet (c .before .before .before .before .before .before .before .before .before .before .before .before .before .before .before .args .d) D A (c .before .before .before .before .before .before .before .before .up-to .result) (c .before .before .before .before .before .before .before .before .up-to .ensures .1)))
