@@ -206,7 +206,14 @@ fn listed(
 }
 
 // Lists the rows that a session may see. Refuses by number (01, "Refusal numbers"), output then untouched.
-pub fn listing(sheet: &[u8], table: u32, command: u32, session: &[u8], rows: &[u8], out: &mut [u8]) -> Listed
+pub fn listing(
+    sheet: &[u8],
+    table: u32,
+    command: u32,
+    session: &[u8],
+    rows: &[u8],
+    out: &mut [u8],
+) -> Listed
     ensures { λ r. ⌜ ListingReply (now (sheet .entry)) table command (now (session .entry)) (now (rows .entry)) (now (out .entry)) r (now (out .exit)) ⌝ }
 {
     let reading = read_sheet(sheet);

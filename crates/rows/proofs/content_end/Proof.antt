@@ -33,10 +33,12 @@ add-t10 : tie.Need-add-t10
 add-t10 c = search needs
 
 returns-4 : tie.Need-returns-4
-returns-4 c =
-    ((omega arith, omega arith, omega arith), λ k K.
-    let n = number (c .before .before .before .before .before .before .args .s .now) (c .before .before .before .before .before .before .args .p + 1) 64 in
-    ends-as (content k _ _) (content-value k _ _ (c .before .before .before .before .if1 .left) (c .before .before .before .bit-at .ensures) (c .before .before .if2 .left) (c .before .if3 .left) {x = n} refl refl refl (integer-fits k n (K ∙ c .if4 .taken) (number-lt _ _ 64))))
+returns-4 c = (
+  (omega arith, omega arith, omega arith),
+  λ k K.
+      let n = number (c .before .before .before .before .before .before .args .s .now) (c .before .before .before .before .before .before .args .p + 1) 64 in
+      ends-as (content k _ _) (content-value k _ _ (c .before .before .before .before .if1 .left) (c .before .before .before .bit-at .ensures) (c .before .before .if2 .left) (c .before .if3 .left) {x = n} refl refl refl (integer-fits k n (K ∙ c .if4 .taken) (number-lt _ _ 64))),
+)
 
 add-peek64 : tie.Need-add-peek64
 add-peek64 c = search needs
