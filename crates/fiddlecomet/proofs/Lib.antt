@@ -3,3 +3,4 @@ pub mod OneLaws
 pub mod VerdictLaws
 pub mod AnswerLaws
 pub mod Demands
+pub mod ToldLaws

@@ -2,6 +2,7 @@
 // bytes come in with a place; a word's bounds, a number or bytes go out. Total: a file that is not of this form gives some words too.
 ghost use Prim.Native.Nat.{_≤_, _<_};
 ghost use lib.ListN.{length};
+ghost use Rattle.script.specs.Counts.{Counts};
 
 // A word stands from `from` up to `to`.
 pub struct Word {
@@ -98,7 +99,7 @@ fn hex_digit(b: u8) -> u8
 
 // The bytes that a word spells in hex, put at the start of `out`: how many there are. ("-" is none.)
 pub fn hex(s: &[u8], w: Word, out: &mut [u8]) -> usize
-    ensures { λ r. ⌜ r ≤ length (now (out .exit)) ⌝ }
+    ensures { λ r. ⌜ Counts r (now (out .exit)) ⌝ }
 {
     let to = w.to;
     let mut p = w.from;

@@ -30,7 +30,7 @@ same-length c = search needs
 
 -- src/lib.rt:101:1
 returns : tie.Need-returns
-returns c = search wrote-then
+returns c = (search wrote-then, search needs)
 
 pub put-refusal-spec : {M : Type 1} → statement M
 put-refusal-spec =

@@ -2,6 +2,7 @@ use mathlib.Core.Path.{_≡_}
 use Prim.Native.Nat.{ℕ, _+_, _-_, _*_, _<_, _≤_}
 use native.Mathlib.Omega.{arith}
 use lib.ListN.{length, length-set}
+use Rattle.script.proofs.Counting.{counts}
 use borrow.Author.Needs.{needs}
 use Rattle.script.proofs.hex.Statement.{statement}
 use Rattle.script.proofs.hex.Tie as tie
@@ -25,7 +26,7 @@ same-length c = search needs
 
 -- src/lib.rt:104:13
 returns : tie.Need-returns Inv-loop μ-loop
-returns c = search needs
+returns c = counts _ _ (search needs)
 
 -- src/lib.rt:106:12
 sub-if2 : tie.Need-sub-if2 Inv-loop μ-loop
@@ -37,7 +38,7 @@ same-length-2 c = search needs
 
 -- src/lib.rt:107:13
 returns-2 : tie.Need-returns-2 Inv-loop μ-loop
-returns-2 c = search needs
+returns-2 c = counts _ _ (search needs)
 
 -- src/lib.rt:110:13
 same-length-3 : tie.Need-same-length-3 Inv-loop μ-loop
@@ -45,7 +46,7 @@ same-length-3 c = search needs
 
 -- src/lib.rt:110:13
 returns-3 : tie.Need-returns-3 Inv-loop μ-loop
-returns-3 c = search needs
+returns-3 c = counts _ _ (search needs)
 
 -- src/lib.rt:112:12
 sub-if4 : tie.Need-sub-if4 Inv-loop μ-loop
@@ -57,7 +58,7 @@ same-length-4 c = search needs
 
 -- src/lib.rt:113:13
 returns-4 : tie.Need-returns-4 Inv-loop μ-loop
-returns-4 c = search needs
+returns-4 c = counts _ _ (search needs)
 
 -- src/lib.rt:115:28
 shared-slice-read-hex-digit : tie.Need-shared-slice-read-hex-digit Inv-loop μ-loop
@@ -113,7 +114,7 @@ same-length-5 c = search needs
 
 -- src/lib.rt:96:1
 returns-5 : tie.Need-returns-5 Inv-loop μ-loop
-returns-5 c = search needs
+returns-5 c = counts _ _ (search needs)
 
 pub hex-spec : {M : Type 1} → statement M
 hex-spec =

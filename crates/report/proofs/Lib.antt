@@ -1,0 +1,2 @@
+pub mod KnownLaws
+pub mod LineLaws
