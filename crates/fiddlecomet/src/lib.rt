@@ -5,9 +5,34 @@ use numbers::CountNumbers;
 use numbers::CoverNumbers;
 use numbers::IsolationNumbers;
 use numbers::LifeNumbers;
-ghost use Rattle.fiddlecomet.specs.Numbers.{DeadNumbers, IsolatedNumbers, CoversNumbers, BranchesNumbers};
+use numbers::ListedNumbers;
+use numbers::WrittenNumbers;
+ghost use Rattle.fiddlecomet.specs.Numbers.{ListingNumbers, NormalFormNumbers, DeadNumbers, IsolatedNumbers, CoversNumbers, BranchesNumbers};
 
 pub mod numbers;
+
+// Lists the rows that a session may see.
+#[no_mangle]
+pub extern "C" fn fiddlecomet_listing(
+    sheet: &[u8],
+    table: u32,
+    command: u32,
+    session: &[u8],
+    rows: &[u8],
+    out: &mut [u8],
+) -> ListedNumbers
+    ensures { λ r. ⌜ ListingNumbers (now (sheet .entry)) table command (now (session .entry)) (now (rows .entry)) (now (out .entry)) r (now (out .exit)) ⌝ }
+{
+    numbers::listed(listing::listing(sheet, table, command, session, rows, out))
+}
+
+// Writes the sheet's normal form.
+#[no_mangle]
+pub extern "C" fn fiddlecomet_normal_form(sheet: &[u8], out: &mut [u8]) -> WrittenNumbers
+    ensures { λ r. ⌜ NormalFormNumbers (now (sheet .entry)) (now (out .entry)) r (now (out .exit)) ⌝ }
+{
+    numbers::written(normal::normal_form(sheet, out))
+}
 
 // Can nobody be handed any row of the table under the command?
 #[no_mangle]
