@@ -1,5 +1,5 @@
 //! The run cases: the reading gives each reply that was worked out by hand, and the files under
-//! data/cases hold exactly these cases.
+//! crates/cases/data hold exactly these cases.
 
 use fiddlecomet_host::cases::{format, groups, Asked};
 use fiddlecomet_host::question::{printed, Answers, Reading};
@@ -37,7 +37,7 @@ fn the_reading_gives_every_reply() {
 
 #[test]
 fn the_files_hold_these_cases() {
-    let folder = Path::new(env!("CARGO_MANIFEST_DIR")).join("../data/cases");
+    let folder = Path::new(env!("CARGO_MANIFEST_DIR")).join("../crates/cases/data");
     for group in groups() {
         let text = std::fs::read_to_string(folder.join(group.file).with_extension("txt")).expect("a file of cases");
         assert!(text == format::text(&group), "{}: run `cargo run --bin write_cases`", group.file);

@@ -1,4 +1,4 @@
-// The words of a case file (data/cases/README.md): words parted by one space, lines ended by a newline, bytes in hex, numbers in decimal. A file's
+// The words of a case file (crates/cases/data/README.md): words parted by one space, lines ended by a newline, bytes in hex, numbers in decimal. A file's
 // bytes come in with a place; a word's bounds, a number or bytes go out. Total: a file that is not of this form gives some words too.
 ghost use Prim.Native.Nat.{_≤_, _<_};
 ghost use lib.ListN.{length};

@@ -1,4 +1,4 @@
-//! Asks one question, given as a line of data/cases' form, and prints the replies:
+//! Asks one question, given as a line of crates/cases/data' form, and prints the replies:
 //!
 //!   cargo run --bin ask -- dead 10884280004000200880 0 0
 //!
@@ -15,7 +15,7 @@ fn main() -> ExitCode {
     let words: Vec<String> = std::env::args().skip(1).collect();
     let words: Vec<&str> = words.iter().flat_map(|word| word.split(' ')).take_while(|word| *word != ">").collect();
     let Some(sheet) = words.get(1).and_then(|word| unhex(word)) else {
-        eprintln!("usage: ask CALL SHEET ..., as a line of data/cases");
+        eprintln!("usage: ask CALL SHEET ..., as a line of crates/cases/data");
         return ExitCode::from(2);
     };
     if words[0] == "readout" {
@@ -23,7 +23,7 @@ fn main() -> ExitCode {
         return ExitCode::SUCCESS;
     }
     let Some(question) = question_of(&words, sheet) else {
-        eprintln!("not a question of data/cases' form");
+        eprintln!("not a question of crates/cases/data' form");
         return ExitCode::from(2);
     };
     let read = Reading.answer(&question);

@@ -1,4 +1,4 @@
-//! Prints random and damaged questions with the reading's replies, as lines of data/cases' form:
+//! Prints random and damaged questions with the reading's replies, as lines of crates/cases/data' form:
 //!
 //!   cargo run --bin questions -- listing 7 500 > more.txt
 //!

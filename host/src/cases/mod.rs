@@ -1,7 +1,7 @@
 //! The run cases: questions with replies worked out by hand from document 01.
 //!
 //! The bytes are made by the builder, the replies stand here as numbers; nothing here asks the
-//! reading. `data/cases/*.txt` holds them for programs in other languages (its README says how).
+//! reading. `crates/cases/data/*.txt` holds them for programs in other languages (its README says how).
 
 pub mod format;
 pub mod limits;
