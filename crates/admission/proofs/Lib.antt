@@ -1,3 +1,6 @@
-pub mod PlanLaws
-pub mod WordLaws
 pub mod LaidLaws
+pub mod ClauseLaws
+pub mod OutsideLaws
+pub mod WordLaws
+pub mod ManyLaws
+pub mod PlanLaws

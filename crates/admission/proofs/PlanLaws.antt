@@ -1,107 +1,106 @@
--- A plan runs to admission: item by item is policy by policy.
-use Prim.Native.Nat.{ℕ}
-use mathlib.Core.Path.{_≡_, refl, sym, ap, _∙_}
-use mathlib.Core.Bool.{Bool, true, false, cond, _&&_, _||_}
-use mathlib.Core.List.{List, [], _∷_, _++_, map, append-assoc, append-nil}
-use Rattle.lists.specs.Lists.{every, any, keep, each}
-use Rattle.meaning.specs.Values.{Contents}
-use Rattle.meaning.specs.Atoms.{Clause, met, clauseMet, policyMet}
-use Rattle.meaning.specs.Sheets.{Policy, Sheet, applies, permissive, restrictive, admits}
-use Rattle.admission.specs.Plan.{Item, atom, clause-end, policy-end, clauseItems, policyItems, counted, planOf, runs}
+-- A plan of the policies that count says who is admitted, and stays what it is while others are laid elsewhere.
+use Prim.Native.Nat.{ℕ, _+_, _-_, _*_, _<_, _≤_}
+use native.Mathlib.Decide.{decLt}
+use native.Mathlib.Omega.{arith}
+use mathlib.Core.Path.{_≡_, refl, sym, ap, subst, _∙_}
+use mathlib.Core.Bool.{Bool, _&&_, _||_}
+use mathlib.Core.List.{List, [], _∷_, _++_}
+use lib.ListN.{length, getD, set, length-append, List·getD-append}
+use lib.Seq.{getD-append-add, getD-set-same, getD-set-other}
+use Rattle.lists.specs.Lists.{any, every, each}
+use Rattle.lists.proofs.BoolLaws.{any-append}
+use Rattle.meaning.specs.Values.{Kind, Contents}
+use Rattle.meaning.specs.Atoms.{Clause, clauseMet, policyMet}
+use Rattle.meaning.specs.Sheets.{Sheet, permissive, restrictive, admits}
+use Rattle.admission.specs.Plan.{countOf, placeOf, ClauseLaid, ClausesLaid, slotOf, PoliciesLaid}
+use Rattle.admission.proofs.ClauseLaws.{words-same}
 
-and-true : (b : Bool) → b ≡ (b && true)
-and-true true = refl
-and-true false = refl
+any-each : {A B : Type 0} (f : B → Bool) (g : A → List B) (xs : List A) → any f (each g xs) ≡ any (λ x. any f (g x)) xs
+any-each f g [] = refl
+any-each f g (x ∷ xs) = any-append f (g x) (each g xs) ∙ ap (λ b. any f (g x) || b) (any-each f g xs)
 
-and-false : (b : Bool) → false ≡ (b && false)
-and-false true = refl
-and-false false = refl
+-- one of the permissive policies is met where one of their clauses is
+pub plan-admits : (sheet : Sheet) (t command : ℕ) (e : Contents) {r : Bool} → r ≡ (policyMet e (each (λ cs. cs) (permissive sheet t command)) && every (policyMet e) (restrictive sheet t command)) → r ≡ admits sheet t command e
+plan-admits sheet t command e h = h ∙ ap (λ b. b && every (policyMet e) (restrictive sheet t command)) (any-each (clauseMet e) (λ cs. cs) (permissive sheet t command))
 
-and-assoc : (a b c : Bool) → ((a && b) && c) ≡ (a && (b && c))
-and-assoc true b c = refl
-and-assoc false b c = refl
+-- numbers that stand the same from `from` up to `end`
+abbrev pub Same : ℕ → ℕ → List ℕ → List ℕ → Type 0
+Same from end before after = (j : ℕ) → from ≤ j → j < end → getD after j 0 ≡ getD before j 0
 
-or-assoc : (a b c : Bool) → ((a || b) || c) ≡ (a || (b || c))
-or-assoc true b c = refl
-or-assoc false b c = refl
+module _ (kind : ℕ → Kind) (s ws : List ℕ) (after : List ℕ) where
+  pub clause-kept : (slot head : ℕ) (c : Clause) → Same (slot * 8) (slot * 8 + 8) ws after → ClauseLaid kind s ws slot head c → ClauseLaid kind s after slot head c
+  clause-kept slot head c same L =
+      let few = L .few in
+      record {
+        few = few;
+        atoms = words-same kind s ws after (slot * 8) (placeOf head) (countOf head) (λ j l m. same j l (omega arith)) ∙ L .atoms;
+        guard = L .guard;
+      }
 
-or-false : (b : Bool) → b ≡ (b || false)
-or-false true = refl
-or-false false = refl
+  pub clauses-kept : (heads headsAfter : List ℕ) (from end : ℕ) (cs : List Clause) → Same (from * 8) (end * 8) ws after → Same from end heads headsAfter → ClausesLaid kind s ws heads from end cs → ClausesLaid kind s after headsAfter from end cs
+  clauses-kept heads headsAfter from end cs words-kept heads-kept L =
+      let n = L .size in
+      record {
+        size = n;
+        each = λ k l. subst (λ head. ClauseLaid kind s after (from + k) head (getD cs k [])) (sym (heads-kept (from + k) (omega arith) (omega arith)))
+            (clause-kept (from + k) (getD heads (from + k) 0) (getD cs k []) (λ j a b. words-kept j (omega arith) (omega arith)) (L .each k l));
+      }
 
-module _ (e : Contents) where
-  -- a clause's atoms
-  runs-atoms : (c : Clause) (xs : List Item) (some one ok : Bool) → runs e (map atom c ++ xs) some one ok ≡ runs e xs some one (ok && every (met e) c)
-  unfolding runs
-  runs-atoms [] xs some one ok = ap (runs e xs some one) (and-true ok)
-  runs-atoms (a ∷ c) xs some one ok = runs-atoms c xs some one (ok && met e a) ∙ ap (runs e xs some one) (and-assoc ok (met e a) (every (met e) c))
-
-  -- a policy's clauses
-  runs-clauses : (cs : List Clause) (xs : List Item) (some one : Bool) → runs e (each clauseItems cs ++ xs) some one true ≡ runs e xs some (one || any (clauseMet e) cs) true
-  unfolding runs
-  runs-clauses [] xs some one = ap (λ b. runs e xs some b true) (or-false one)
-  runs-clauses (c ∷ cs) xs some one =
-      ap (λ l. runs e l some one true) (append-assoc (map atom c ++ (clause-end ∷ [])) (each clauseItems cs) xs ∙ append-assoc (map atom c) (clause-end ∷ []) (each clauseItems cs ++ xs))
-      ∙ runs-atoms c (clause-end ∷ (each clauseItems cs ++ xs)) some one true
-      ∙ runs-clauses cs xs some (one || every (met e) c)
-      ∙ ap (λ b. runs e xs some b true) (or-assoc one (every (met e) c) (any (clauseMet e) cs))
-
-  -- what a policy says of those that are admitted: a permissive one that it is met; a restrictive one that it is not failed
-  abbrev opens : Policy → Bool
-  opens p = cond (p .restrictive) false (policyMet e (p .clauses))
-
-  abbrev lets : Policy → Bool
-  lets p = cond (p .restrictive) (policyMet e (p .clauses)) true
-
-  runs-policies : (ps : List Policy) (some : Bool) → runs e (each policyItems ps) some false true ≡ ((some || any opens ps) && every lets ps)
-  unfolding runs
-  runs-policies [] some = or-false some ∙ and-true (some || false)
-  runs-policies (p ∷ ps) some =
-      ap (λ l. runs e l some false true) (append-assoc (each clauseItems (p .clauses)) (policy-end (p .restrictive) ∷ []) (each policyItems ps))
-      ∙ runs-clauses (p .clauses) (policy-end (p .restrictive) ∷ each policyItems ps) some false
-      ∙ go (p .restrictive) (policyMet e (p .clauses)) (runs-policies ps)
+-- clauses behind clauses
+module _ (kind : ℕ → Kind) (s ws heads : List ℕ) where
+  pub clauses-join : (from mid end : ℕ) (cs ds : List Clause) → ClausesLaid kind s ws heads from mid cs → ClausesLaid kind s ws heads mid end ds → ClausesLaid kind s ws heads from end (cs ++ ds)
+  clauses-join from mid end cs ds L M =
+      let n = L .size in
+      let m = M .size in
+      let sum = length-append cs ds in
+      record { size = omega arith; each = λ k l. go k (omega arith) (decLt k (length cs)) }
     where
-      go : (r m : Bool) → ((some : Bool) → runs e (each policyItems ps) some false true ≡ ((some || any opens ps) && every lets ps)) →
-          runs e (policy-end r ∷ each policyItems ps) some m true ≡ ((some || (cond r false m || any opens ps)) && (cond r m true && every lets ps))
-      go true true ih = ih some
-      go true false ih = and-false (some || any opens ps)
-      go false m ih = ih (some || m) ∙ ap (λ b. b && every lets ps) (or-assoc some m (any opens ps))
+      go : (k : ℕ) → k < length cs + length ds → Dec (k < length cs) → ClauseLaid kind s ws (from + k) (getD heads (from + k) 0) (getD (cs ++ ds) k [])
+      go k l (yes a) = subst (ClauseLaid kind s ws (from + k) (getD heads (from + k) 0)) (sym (List·getD-append cs ds [] k a)) (L .each k a)
+      go k l (no a) =
+          let n = L .size in
+          let z : mid + (k - length cs) ≡ from + k = omega arith in
+          let i : length cs + (k - length cs) ≡ k = omega arith in
+          let e : getD (cs ++ ds) k [] ≡ getD ds (k - length cs) [] = ap (λ j. getD (cs ++ ds) j []) (sym i) ∙ getD-append-add cs ds (k - length cs) [] in
+          subst (ClauseLaid kind s ws (from + k) (getD heads (from + k) 0)) (sym e) (subst (λ j. ClauseLaid kind s ws j (getD heads j 0) (getD ds (k - length cs) [])) z (M .each (k - length cs) (omega arith)))
 
-  any-opens : (f : Policy → Bool) (ps : List Policy) → any (policyMet e) (map (λ p. p .clauses) (keep (λ p. cond (p .restrictive) false (f p)) ps)) ≡ any opens (keep f ps)
-  any-opens f [] = refl
-  any-opens f (p ∷ ps) = go (p .restrictive) (f p) (any-opens f ps) ∙ spread (f p)
+  -- a policy behind policies, its count written behind theirs
+  pub policies-more : (counts : List ℕ) (n m : ℕ) (ps : List (List Clause)) (cs : List Clause) → n < length counts → m ≤ 8 → PoliciesLaid kind s ws heads counts n ps → ClausesLaid kind s ws heads (slotOf n) (slotOf n + m) cs →
+      PoliciesLaid kind s ws heads (set counts n m) (n + 1) (ps ++ (cs ∷ []))
+  policies-more counts n m ps cs room few L M =
+      let size = L .size in
+      record {
+        size = length-append ps (cs ∷ []) ∙ omega arith;
+        few = λ i l. fits i (decLt i n) l;
+        each = λ i l. go i (decLt i n) l;
+      }
     where
-      spread : (b : Bool) → cond b (opens p || any opens (keep f ps)) (any opens (keep f ps)) ≡ any opens (cond b (p ∷ keep f ps) (keep f ps))
-      spread true = refl
-      spread false = refl
+      here : (i : ℕ) → i ≡ n → getD (set counts n m) i 0 ≡ m
+      here i e = ap (λ j. getD (set counts n m) j 0) e ∙ getD-set-same counts n m 0 room
 
-      go : (r b : Bool) → any (policyMet e) (map (λ p. p .clauses) (keep (λ p. cond (p .restrictive) false (f p)) ps)) ≡ any opens (keep f ps) →
-          any (policyMet e) (map (λ p. p .clauses) (cond (cond r false b) (p ∷ keep (λ p. cond (p .restrictive) false (f p)) ps) (keep (λ p. cond (p .restrictive) false (f p)) ps)))
-          ≡ cond b (cond r false (policyMet e (p .clauses)) || any opens (keep f ps)) (any opens (keep f ps))
-      go true true ih = ih
-      go true false ih = ih
-      go false true ih = ap (λ b. policyMet e (p .clauses) || b) ih
-      go false false ih = ih
+      fits : (i : ℕ) → Dec (i < n) → i < n + 1 → getD (set counts n m) i 0 ≤ 8
+      fits i (yes a) l = let e = getD-set-other counts n i m 0 (λ z. omega arith) in let f = L .few i a in omega arith
+      fits i (no a) l = let e = here i (omega arith) in omega arith
 
-  every-lets : (f : Policy → Bool) (ps : List Policy) → every (policyMet e) (map (λ p. p .clauses) (keep (λ p. p .restrictive && f p) ps)) ≡ every lets (keep f ps)
-  every-lets f [] = refl
-  every-lets f (p ∷ ps) = go (p .restrictive) (f p) (every-lets f ps) ∙ spread (f p)
-    where
-      spread : (b : Bool) → cond b (lets p && every lets (keep f ps)) (every lets (keep f ps)) ≡ every lets (cond b (p ∷ keep f ps) (keep f ps))
-      spread true = refl
-      spread false = refl
+      go : (i : ℕ) → Dec (i < n) → i < n + 1 → ClausesLaid kind s ws heads (slotOf i) (slotOf i + getD (set counts n m) i 0) (getD (ps ++ (cs ∷ [])) i [])
+      go i (yes a) l =
+          let size = L .size in
+          let e = getD-set-other counts n i m 0 (λ z. omega arith) in
+          subst (λ j. ClausesLaid kind s ws heads (slotOf i) (slotOf i + j) (getD (ps ++ (cs ∷ [])) i [])) (sym e) (subst (ClausesLaid kind s ws heads (slotOf i) (slotOf i + getD counts i 0)) (sym (List·getD-append ps (cs ∷ []) [] i (omega arith))) (L .each i a))
+      go i (no a) l =
+          let size = L .size in
+          let is : n ≡ i = omega arith in
+          let e = here i (sym is) in
+          let f : getD (ps ++ (cs ∷ [])) i [] ≡ cs = ap (λ j. getD (ps ++ (cs ∷ [])) j []) (let z : i ≡ length ps + 0 = omega arith in z) ∙ getD-append-add ps (cs ∷ []) 0 [] in
+          subst (λ j. ClausesLaid kind s ws heads (slotOf i) (slotOf i + j) (getD (ps ++ (cs ∷ [])) i [])) (sym e) (subst (ClausesLaid kind s ws heads (slotOf i) (slotOf i + m)) (sym f) (subst (λ j. ClausesLaid kind s ws heads (slotOf j) (slotOf j + m) cs) is M))
 
-      go : (r b : Bool) → every (policyMet e) (map (λ p. p .clauses) (keep (λ p. p .restrictive && f p) ps)) ≡ every lets (keep f ps) →
-          every (policyMet e) (map (λ p. p .clauses) (cond (r && b) (p ∷ keep (λ p. p .restrictive && f p) ps) (keep (λ p. p .restrictive && f p) ps)))
-          ≡ cond b (cond r (policyMet e (p .clauses)) true && every lets (keep f ps)) (every lets (keep f ps))
-      go true true ih = ap (λ b. policyMet e (p .clauses) && b) ih
-      go true false ih = ih
-      go false true ih = ih
-      go false false ih = ih
-
-  -- a plan says who is admitted
-  pub runs-admits : (sheet : Sheet) (t command : ℕ) → runs e (planOf sheet t command) false false true ≡ admits sheet t command e
-  unfolding planOf
-  runs-admits sheet t command =
-      runs-policies (counted sheet t command) false
-      ∙ sym (ap (λ b. b && every (policyMet e) (restrictive sheet t command)) (any-opens (applies sheet t command) (sheet .policies)) ∙ ap (λ b. any opens (counted sheet t command) && b) (every-lets (applies sheet t command) (sheet .policies)))
+-- policies whose clauses and counts stand the same
+pub policies-kept : (kind : ℕ → Kind) (s ws after heads headsAfter counts : List ℕ) (n : ℕ) (ps : List (List Clause)) → n ≤ 16 → Same ((128 - 8 * n) * 8) 1024 ws after → Same (128 - 8 * n) 128 heads headsAfter →
+    PoliciesLaid kind s ws heads counts n ps → PoliciesLaid kind s after headsAfter counts n ps
+policies-kept kind s ws after heads headsAfter counts n ps few words-kept heads-kept L =
+    record {
+      size = L .size;
+      few = L .few;
+      each = λ i l. let m = L .few i l in
+          clauses-kept kind s ws after heads headsAfter (slotOf i) (slotOf i + getD counts i 0) (getD ps i []) (λ j a b. words-kept j (omega arith) (omega arith)) (λ j a b. heads-kept j (omega arith) (omega arith)) (L .each i l);
+    }

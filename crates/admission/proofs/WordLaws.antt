@@ -1,144 +1,128 @@
--- Words: what the evaluating code finds of one is what its atom says; and a turn of the plan's run.
-use Prim.Native.Nat.{ℕ, zero, suc, _+_, _-_, _*_, _/_, _%_, _<_, _≤_}
+-- Words: what the evaluating code finds of one is what its atom says.
+use Prim.Native.Nat.{ℕ, zero, suc, _+_, _<_, _≤_}
+use native.Mathlib.Decide.{decLt}
 use native.Mathlib.Omega.{arith}
-use native.Mathlib.Numerals.{add-one}
 use mathlib.Core.Path.{_≡_, refl, sym, ap, _∙_}
-use mathlib.Core.Bool.{Bool, true, false, cond, not, _&&_, _||_}
-use mathlib.Core.List.{List, [], _∷_, _++_, map}
-use lib.ListN.{length, getD, take, drop, length-take, drop-of-length-le}
-use lib.Seq.{drop-cons, getD-take, length-take-le}
-use lib.Dec.{ltb, leb, eqb}
-use borrow.Author.Tests.{lt-ltb, le-ltb, eq-eqb, ne-eqb}
+use mathlib.Core.Bool.{Bool, true, false, cond, not, _||_}
+use mathlib.Core.List.{List}
+use lib.ListN.{getD}
+use lib.Dec.{ltb, eqb}
+use borrow.Author.Tests.{lt-ltb, le-ltb, eq-eqb, ne-eqb, eqb-true}
+use Rattle.lists.specs.Lists.{any}
+use Rattle.lists.proofs.BoolLaws.{alike}
+use Rattle.bits.specs.Bits.{number, numbers}
 use Rattle.meaning.specs.declared.Content.{Content}
 use Rattle.meaning.specs.declared.Content.the-variants.{Null, Value}
-use Rattle.meaning.specs.Values.{Kind, Contents}
-use Rattle.meaning.specs.Atoms.{among, passes, met}
+use Rattle.meaning.specs.Values.{Kind, raw, Contents}
+use Rattle.meaning.specs.Atoms.{equals, among, isValue, passes, met}
+use Rattle.meaning.specs.Steps.{on}
 use Rattle.meaning.specs.Views.{operatorOf}
+use Rattle.meaning.proofs.FormLaws.{raw-raw}
 use Rattle.meaning.proofs.ViewLaws.{null-passes}
-use Rattle.admission.specs.Plan.{Item, atom, clause-end, policy-end, runs, valueAt, valuesAt, operatorNumberOf, variableOf, otherOf, placeOf, operatorOfWord, atomOfWord, itemOf}
+use Rattle.rows.specs.Held.{held}
+use Rattle.admission.specs.Plan.{valueAt, valuesAt, operatorNumberOf, variableOf, otherOf, operatorOfWord, atomOfWord, guardBy}
 
--- the values that are left to look at
-values-more : (k : Kind) (s : List ℕ) (p left : ℕ) → 0 < left → valuesAt k s p left ≡ valueAt k s p ∷ valuesAt k s (p + 64) (left - 1)
-unfolding valuesAt
-values-more k s p zero l = absurd (omega arith)
-values-more k s p (suc n) l = let e : n ≡ suc n - 1 = omega arith in ap (λ m. valueAt k s p ∷ valuesAt k s (p + 64) m) e
+-- a value is among values exactly when its bits are among theirs
+bits-same : (k : Kind) (x y : ℕ) → eqb (raw k x) y ≡ eqb x (raw k y)
+bits-same k x y = alike (eqb (raw k x) y) (eqb x (raw k y)) (λ e. eq-eqb x (raw k y) (sym (raw-raw k x) ∙ ap (raw k) (eqb-true (raw k x) y e))) (λ e. eq-eqb (raw k x) y (ap (raw k) (eqb-true x (raw k y) e) ∙ raw-raw k y))
 
-module _ (k : Kind) (s : List ℕ) (x p left : ℕ) where
-  pub among-none : left ≤ 0 → among x (valuesAt k s p left) ≡ false
-  unfolding valuesAt
-  among-none l = let e : left ≡ 0 = omega arith in ap (λ m. among x (valuesAt k s p m)) e
-
-  pub among-here : {y : ℕ} → 0 < left → y ≡ valueAt k s p → x ≡ y → among x (valuesAt k s p left) ≡ true
-  among-here l e f = ap (among x) (values-more k s p left l) ∙ ap (λ b. b || among x (valuesAt k s (p + 64) (left - 1))) (eq-eqb x (valueAt k s p) (f ∙ e))
-
-  pub among-later : {y : ℕ} → 0 < left → y ≡ valueAt k s p → (x ≡ y → ⊥) → among x (valuesAt k s p left) ≡ among x (valuesAt k s (p + 64) (left - 1))
-  among-later l e f = ap (among x) (values-more k s p left l) ∙ ap (λ b. b || among x (valuesAt k s (p + 64) (left - 1))) (ne-eqb x (valueAt k s p) (λ z. f (z ∙ sym e)))
+pub among-bits : (k : Kind) (s : List ℕ) (x p n : ℕ) → any (eqb (raw k x)) (numbers s p n) ≡ among x (valuesAt k s p n)
+unfolding numbers valuesAt
+among-bits k s x p zero = refl
+among-bits k s x p (suc n) = (λ i. bits-same k x (number s p 64) i || among-bits k s x (p + 64) n i)
 
 -- a value passes by the operator that its number stands for
-module _ (kind : ℕ → Kind) (e : Contents) (s : List ℕ) (w x : ℕ) where
-  pub passes-at : (op : ℕ) → operatorNumberOf w ≡ op →
-      passes e (operatorOf op (otherOf w) (valueAt (kind (variableOf w)) s (placeOf w)) (valuesAt (kind (variableOf w)) s (placeOf w) (otherOf w))) (Value x) ≡ passes e (operatorOfWord kind s w) (Value x)
-  unfolding operatorOfWord
-  passes-at op h = ap (λ o. passes e (operatorOf o (otherOf w) (valueAt (kind (variableOf w)) s (placeOf w)) (valuesAt (kind (variableOf w)) s (placeOf w) (otherOf w))) (Value x)) (sym h)
+module _ (e : Contents) (x u y : ℕ) (ns : List ℕ) where
+  pub order-passes : (op : ℕ) {o : ℕ} → o ≡ op → passes e (operatorOf op u y ns) (Value x) ≡ passes e (operatorOf o u y ns) (Value x)
+  order-passes op h = ap (λ o. passes e (operatorOf o u y ns) (Value x)) (sym h)
 
-  pub passes-rest : (operatorNumberOf w ≡ 0 → ⊥) → (operatorNumberOf w ≡ 1 → ⊥) → (operatorNumberOf w ≡ 2 → ⊥) → (operatorNumberOf w ≡ 3 → ⊥) → (operatorNumberOf w ≡ 4 → ⊥) → (operatorNumberOf w ≡ 5 → ⊥) → (operatorNumberOf w ≡ 6 → ⊥) → (operatorNumberOf w ≡ 7 → ⊥) → true ≡ passes e (operatorOfWord kind s w) (Value x)
-  unfolding operatorOfWord
-  passes-rest h0 h1 h2 h3 h4 h5 h6 h7 =
-      let op = operatorNumberOf w in
-      rw (ne-eqb op 0 h0, ne-eqb op 1 h1, ne-eqb op 2 h2, ne-eqb op 3 h3, ne-eqb op 4 h4, ne-eqb op 5 h5, ne-eqb op 6 h6, ne-eqb op 7 h7)
+  pub listed-passes : (op : ℕ) {b : Bool} → (op ≡ 0 → ⊥) → op < 3 → b ≡ among x ns → b ≡ true → eqb op 1 ≡ passes e (operatorOf op u y ns) (Value x)
+  listed-passes zero z l h t = absurd (z refl)
+  listed-passes (suc zero) z l h t = sym t ∙ h
+  listed-passes (suc (suc zero)) z l h t = ap not (sym t ∙ h)
+  listed-passes (suc (suc (suc op))) z l h t = absurd (omega arith)
 
-  -- a word's atom on null, and on a value
-  pub word-null : e (variableOf w) ≡ Null → eqb (operatorNumberOf w) 7 ≡ met e (atomOfWord kind s w)
+  pub unlisted-passes : (op : ℕ) {b : Bool} → (op ≡ 0 → ⊥) → op < 3 → b ≡ among x ns → b ≡ false → eqb op 2 ≡ passes e (operatorOf op u y ns) (Value x)
+  unlisted-passes zero z l h f = absurd (z refl)
+  unlisted-passes (suc zero) z l h f = sym f ∙ h
+  unlisted-passes (suc (suc zero)) z l h f = ap not (sym f ∙ h)
+  unlisted-passes (suc (suc (suc op))) z l h f = absurd (omega arith)
+
+  -- "7 is null; 8 is not null"
+  pub null-test-passes : (op : ℕ) → 7 ≤ op → ltb 7 op ≡ passes e (operatorOf op u y ns) (Value x)
+  null-test-passes op l = go (decLt 7 op)
+    where
+      go : Dec (7 < op) → ltb 7 op ≡ passes e (operatorOf op u y ns) (Value x)
+      go (yes m) =
+          lt-ltb 7 op m
+          ∙ rw (ne-eqb op 0 (λ z. omega arith), ne-eqb op 1 (λ z. omega arith), ne-eqb op 2 (λ z. omega arith), ne-eqb op 3 (λ z. omega arith), ne-eqb op 4 (λ z. omega arith), ne-eqb op 5 (λ z. omega arith), ne-eqb op 6 (λ z. omega arith), ne-eqb op 7 (λ z. omega arith))
+      go (no m) = let is : op ≡ 7 = omega arith in le-ltb 7 op (omega arith) ∙ order-passes 7 is
+
+-- a bound; a word's atom on null, on a value, and an equality
+module _ (kind : ℕ → Kind) (e : Contents) (s : List ℕ) (w p x : ℕ) where
+  pub word-null : e (variableOf w) ≡ Null → eqb (operatorNumberOf w) 7 ≡ met e (atomOfWord kind s w p)
   unfolding atomOfWord operatorOfWord
-  word-null h = sym (ap (passes e (operatorOfWord kind s w)) h ∙ null-passes e (operatorNumberOf w) (otherOf w) _ _)
+  word-null h = sym (ap (passes e (operatorOfWord kind s w p)) h ∙ null-passes e (operatorNumberOf w) (otherOf w) _ _)
 
-  pub word-value : {r : Bool} → e (variableOf w) ≡ Value x → r ≡ passes e (operatorOfWord kind s w) (Value x) → r ≡ met e (atomOfWord kind s w)
+  pub bound-passes : {r : Bool} {y : ℕ} → ((u : ℕ) (ns : List ℕ) → r ≡ passes e (operatorOf (operatorNumberOf w) u y ns) (Value x)) → y ≡ valueAt (kind (variableOf w)) s (p + 9) → r ≡ passes e (operatorOfWord kind s w p) (Value x)
+  unfolding operatorOfWord
+  bound-passes h k =
+      h (otherOf w) (valuesAt (kind (variableOf w)) s (p + 13) (otherOf w))
+      ∙ ap (λ z. passes e (operatorOf (operatorNumberOf w) (otherOf w) z (valuesAt (kind (variableOf w)) s (p + 13) (otherOf w))) (Value x)) k
+
+  pub word-value : {r : Bool} → e (variableOf w) ≡ Value x → r ≡ passes e (operatorOfWord kind s w p) (Value x) → r ≡ met e (atomOfWord kind s w p)
   unfolding atomOfWord
-  word-value h g = g ∙ sym (ap (passes e (operatorOfWord kind s w)) h)
+  word-value h g = g ∙ sym (ap (passes e (operatorOfWord kind s w p)) h)
 
--- a turn: the word at i is the plan's next item
-module _ (kind : ℕ → Kind) (e : Contents) (s plan : List ℕ) (n i : ℕ) (l : i < n) (fits : n ≤ length plan) (some one ok : Bool) where
-  abbrev w : ℕ
-  w = getD plan i 0
+  pub word-equals : {r : Bool} → e (variableOf w) ≡ Value x → operatorNumberOf w ≡ 0 → r ≡ isValue x (e (otherOf w)) → r ≡ met e (atomOfWord kind s w p)
+  unfolding operatorOfWord
+  word-equals h o g = word-value h (g ∙ order-passes e x (otherOf w) _ _ 0 o)
 
-  abbrev left : ℕ → List Item
-  left j = map (itemOf kind s) (drop j (take n plan))
+-- an equality of what two variables hold, each null or a value
+equals-by : (e : Contents) (u : ℕ) (a b : Bool) (x y : ℕ) {c : Content} → c ≡ cond a Null (Value x) → e u ≡ cond b Null (Value y) → passes e (equals u) c ≡ cond a false (cond b false (eqb x y))
+equals-by e u true b x y h k = ap (passes e (equals u)) h
+equals-by e u false true x y h k = ap (passes e (equals u)) h ∙ ap (isValue x) k
+equals-by e u false false x y h k = ap (passes e (equals u)) h ∙ ap (isValue x) k
 
-  next : left i ≡ itemOf kind s w ∷ left (i + 1)
-  next =
-      let size : length (take n plan) ≡ n = length-take-le n plan fits in
-      let inside : i < length (take n plan) = omega arith in
-      ap (map (itemOf kind s)) (drop-cons (take n plan) i 0 inside ∙ ap (λ x. x ∷ drop (suc i) (take n plan)) (getD-take n plan i 0 l) ∙ ap (λ j. getD plan i 0 ∷ drop j (take n plan)) (sym (add-one i)))
+-- a guard, by what the arrays hold of its variables
+module _ (present values : List ℕ) (v u : ℕ) where
+  abbrev x : ℕ
+  x = getD values v 0
 
-  turn : {x : Item} → itemOf kind s w ≡ x → runs e (left i) some one ok ≡ runs e (x ∷ left (i + 1)) some one ok
-  turn h = ap (λ l. runs e l some one ok) (next ∙ ap (λ y. y ∷ left (i + 1)) h)
+  abbrev y : ℕ
+  y = getD values u 0
 
-  module _ (op : operatorNumberOf w < 9) where
-    is-atom : itemOf kind s w ≡ atom (atomOfWord kind s w)
-    unfolding itemOf
-    is-atom = simp (lt-ltb (operatorNumberOf w) 9 op)
+  pub no-guard : 24 ≤ v → true ≡ guardBy (held present values) v u
+  no-guard l = sym (ap (λ b. cond b (met (held present values) (on v (equals u))) true) (le-ltb v 24 l))
 
-    pub turn-atom : {r : Bool} → ok ≡ true → r ≡ met e (atomOfWord kind s w) → runs e (left i) some one ok ≡ runs e (left (i + 1)) some one r
-    unfolding runs
-    turn-atom g h = turn is-atom ∙ ap (λ b. runs e (left (i + 1)) some one (b && met e (atomOfWord kind s w))) g ∙ ap (runs e (left (i + 1)) some one) (sym h)
+  module _ (l : v < 24) where
+    by-equality : {r : Bool} → r ≡ met (held present values) (on v (equals u)) → r ≡ guardBy (held present values) v u
+    by-equality h = h ∙ sym (ap (λ b. cond b (met (held present values) (on v (equals u))) true) (lt-ltb v 24 l))
 
-    pub turn-skips : ok ≡ false → runs e (left i) some one ok ≡ runs e (left (i + 1)) some one ok
-    unfolding runs
-    turn-skips g = turn is-atom ∙ ap (λ b. runs e (left (i + 1)) some one (b && met e (atomOfWord kind s w))) g ∙ ap (runs e (left (i + 1)) some one) (sym g)
+    by-cells : {a b c r : Bool} → eqb (getD present v 0) 0 ≡ a → eqb (getD present u 0) 0 ≡ b → eqb x y ≡ c → r ≡ cond a false (cond b false c) → r ≡ guardBy (held present values) v u
+    by-cells h k m g = by-equality (g ∙ sym (equals-by (held present values) u (eqb (getD present v 0) 0) (eqb (getD present u 0) 0) x y refl refl ∙ (λ i. cond (h i) false (cond (k i) false (m i)))))
 
-  module _ (high : 9 ≤ operatorNumberOf w) where
-    pub turn-met : operatorNumberOf w ≡ 9 → ok ≡ true → runs e (left i) some one ok ≡ runs e (left (i + 1)) some true ok
-    unfolding runs itemOf
-    turn-met h g = turn {x = clause-end} (simp (le-ltb (operatorNumberOf w) 9 high, eq-eqb (operatorNumberOf w) 9 h)) ∙ ap (λ b. runs e (left (i + 1)) some (one || b) true) g ∙ go one ∙ ap (runs e (left (i + 1)) some true) (sym g)
+    pub guard-past : held present values u ≡ Null → false ≡ guardBy (held present values) v u
+    guard-past n = by-equality (sym (go (held present values v)))
       where
-        go : (b : Bool) → runs e (left (i + 1)) some (b || true) true ≡ runs e (left (i + 1)) some true true
+        go : (c : Content) → passes (held present values) (equals u) c ≡ false
+        go Null = refl
+        go (Value m) = ap (isValue m) n
+
+    pub guard-null : getD present v 0 ≡ 0 → false ≡ guardBy (held present values) v u
+    guard-null h = by-cells (eq-eqb (getD present v 0) 0 h) refl refl refl
+
+    pub guard-differs : (x ≡ y → ⊥) → false ≡ guardBy (held present values) v u
+    guard-differs h = by-cells refl refl (ne-eqb x y h) (go (eqb (getD present v 0) 0) (eqb (getD present u 0) 0))
+      where
+        go : (a b : Bool) → false ≡ cond a false (cond b false false)
+        go true b = refl
+        go false true = refl
+        go false false = refl
+
+    pub guard-same : (getD present v 0 ≡ 0 → ⊥) → x ≡ y → {r : Bool} → r ≡ not (eqb (getD present u 0) 0) → r ≡ guardBy (held present values) v u
+    guard-same h k g = by-cells (ne-eqb (getD present v 0) 0 h) refl (eq-eqb x y k) (g ∙ go (eqb (getD present u 0) 0))
+      where
+        go : (b : Bool) → not b ≡ cond b false true
         go true = refl
         go false = refl
-
-    pub turn-failed : operatorNumberOf w ≡ 9 → ok ≡ false → runs e (left i) some one ok ≡ runs e (left (i + 1)) some one true
-    unfolding runs itemOf
-    turn-failed h g = turn {x = clause-end} (simp (le-ltb (operatorNumberOf w) 9 high, eq-eqb (operatorNumberOf w) 9 h)) ∙ ap (λ b. runs e (left (i + 1)) some (one || b) true) g ∙ go one
-      where
-        go : (b : Bool) → runs e (left (i + 1)) some (b || false) true ≡ runs e (left (i + 1)) some b true
-        go true = refl
-        go false = refl
-
-    module _ (not9 : operatorNumberOf w ≡ 9 → ⊥) where
-      permits : operatorNumberOf w ≡ 10 → runs e (left i) some one ok ≡ runs e (left (i + 1)) (some || one) false true
-      unfolding runs itemOf
-      permits h = turn {x = policy-end false} (simp (le-ltb (operatorNumberOf w) 9 high, ne-eqb (operatorNumberOf w) 9 not9, eq-eqb (operatorNumberOf w) 10 h))
-
-      pub turn-opens : operatorNumberOf w ≡ 10 → one ≡ true → runs e (left i) some one ok ≡ runs e (left (i + 1)) true false true
-      turn-opens h g = permits h ∙ ap (λ b. runs e (left (i + 1)) (some || b) false true) g ∙ go some
-        where
-          go : (b : Bool) → runs e (left (i + 1)) (b || true) false true ≡ runs e (left (i + 1)) true false true
-          go true = refl
-          go false = refl
-
-      pub turn-shuts : operatorNumberOf w ≡ 10 → one ≡ false → runs e (left i) some one ok ≡ runs e (left (i + 1)) some one true
-      turn-shuts h g = permits h ∙ ap (λ b. runs e (left (i + 1)) (some || b) false true) g ∙ go some ∙ ap (λ b. runs e (left (i + 1)) some b true) (sym g)
-        where
-          go : (b : Bool) → runs e (left (i + 1)) (b || false) false true ≡ runs e (left (i + 1)) b false true
-          go true = refl
-          go false = refl
-
-      module _ (not10 : operatorNumberOf w ≡ 10 → ⊥) where
-        is-restrictive : itemOf kind s w ≡ policy-end true
-        unfolding itemOf
-        is-restrictive = simp (le-ltb (operatorNumberOf w) 9 high, ne-eqb (operatorNumberOf w) 9 not9, ne-eqb (operatorNumberOf w) 10 not10)
-
-        pub turn-restrictive : one ≡ true → runs e (left i) some one ok ≡ runs e (left (i + 1)) some false true
-        unfolding runs
-        turn-restrictive g = turn is-restrictive ∙ ap (λ b. cond b (runs e (left (i + 1)) some false true) false) g
-
-        pub turn-denies : one ≡ false → runs e (left i) some one ok ≡ false
-        unfolding runs
-        turn-denies g = turn is-restrictive ∙ ap (λ b. cond b (runs e (left (i + 1)) some false true) false) g
-
--- the plan is run to its end
-pub run-ends : (kind : ℕ → Kind) (e : Contents) (s plan : List ℕ) (n i : ℕ) → n ≤ i → n ≤ length plan → (some one ok : Bool) → runs e (map (itemOf kind s) (drop i (take n plan))) some one ok ≡ some
-unfolding runs
-run-ends kind e s plan n i l fits some one ok =
-    let size : length (take n plan) ≡ n = length-take-le n plan fits in
-    let over : length (take n plan) ≤ i = omega arith in
-    ap (λ xs. runs e (map (itemOf kind s) xs) some one ok) (drop-of-length-le (take n plan) over)

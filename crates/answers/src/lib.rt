@@ -11,26 +11,34 @@ use sheet::read_sheet;
 pub fn dead(s: &[u8], table: u32, command: u32) -> Life
     ensures { λ r. ⌜ DeadReply (now (s .entry)) table command r ⌝ }
 {
-    verdicts::replies::dead(s, read_sheet(s), table, command)
+    let mut book = [0u32; 240];
+    let reading = read_sheet(s, &mut book);
+    verdicts::replies::dead(s, reading, &book, table, command)
 }
 
 // "no row is admitted for two sessions of different tenants", or the first pair that leaks
 pub fn isolated(s: &[u8], table: u32, command: u32) -> Isolation
     ensures { λ r. ⌜ IsolatedReply (now (s .entry)) table command r ⌝ }
 {
-    verdicts::replies::isolated(s, read_sheet(s), table, command)
+    let mut book = [0u32; 240];
+    let reading = read_sheet(s, &mut book);
+    verdicts::replies::isolated(s, reading, &book, table, command)
 }
 
 // Does policy a cover policy b?
 pub fn covers(s: &[u8], a: u32, b: u32) -> Cover
     ensures { λ r. ⌜ CoversReply (now (s .entry)) a b r ⌝ }
 {
-    verdicts::replies::covers(s, read_sheet(s), a, b)
+    let mut book = [0u32; 240];
+    let reading = read_sheet(s, &mut book);
+    verdicts::replies::covers(s, reading, &book, a, b)
 }
 
 // N, at any size
 pub fn branches(s: &[u8], table: u32, command: u32) -> BranchCount
     ensures { λ r. ⌜ BranchesReply (now (s .entry)) table command r ⌝ }
 {
-    verdicts::replies::branch_count(s, read_sheet(s), table, command)
+    let mut book = [0u32; 240];
+    let reading = read_sheet(s, &mut book);
+    verdicts::replies::branch_count(s, reading, &book, table, command)
 }

@@ -14,18 +14,13 @@ use Rattle.lists.proofs.OrderLaws.{all-map}
 use Rattle.meaning.specs.Atoms.{Operator, equals, in-list, not-in-list, order, is-null, is-not-null, Clause}
 use Rattle.meaning.specs.Sheets.{Table, Policy, Sheet, tableAt, policyAt, holds, matches, applies, permissive, restrictive, joined, choices, branches, second, columnsHeld, tablesServe}
 use Rattle.meaning.specs.Allowed.{IsVariable, OperatorAllowed, ClauseAllowed, factsOf, SheetAllowed}
-use Rattle.lists.proofs.ListLaws.{all-append}
+use Rattle.lists.proofs.ListLaws.{all-append, all-at}
 use Rattle.asked.specs.Asked.{There, Uses, everyColumn}
 
 module _ {A : Type 0} where
   all-both : (P Q R : A → Type 0) → ((x : A) → P x → Q x → R x) → (xs : List A) → All P xs → All Q xs → All R xs
   all-both P Q R f [] h g = tt
   all-both P Q R f (x ∷ xs) h g = (f x (h .0) (g .0), all-both P Q R f xs (h .1) (g .1))
-
-  pub all-at : (P : A → Type 0) (d : A) (xs : List A) (i : ℕ) → i < length xs → All P xs → P (getD xs i d)
-  all-at P d [] i l h = absurd (let q : ⊥ = omega arith in q)
-  all-at P d (x ∷ xs) zero l h = h .0
-  all-at P d (x ∷ xs) (suc i) l h = all-at P d xs i (omega arith) (h .1)
 
   every-all : (f : A → Bool) (xs : List A) → every f xs ≡ true → All (λ x. f x ≡ true) xs
   every-all f [] h = tt

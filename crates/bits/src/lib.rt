@@ -1,11 +1,13 @@
 // Fields of 1..64 bits at any bit of bytes. Read: at a place (`field_at`) with the next place or refusal 2, or at a bit number
-// (`peek`, `peek64`), where bits past the end are 0. Written: over any bits (`put`), or behind the bits before, with zero bits to
-// the end of the byte (`put_field`). It makes true "Bits are taken most significant first" and "each field read moves it on"
-// (01, "The packed sheet"). A read touches at most nine bytes, in a straight line. Stands on nothing.
+// (`peek`, `peek64`), where bits past the end are 0; or a run of numbers is looked through for one (`spells`). Written: over any bits
+// (`put`), or behind the bits before, with zero bits to the end of the byte (`put_field`). It makes true "Bits are taken most significant
+// first" and "each field read moves it on" (01, "The packed sheet"). A read touches at most nine bytes, in a straight line. Stands on nothing.
 ghost use mathlib.Core.Path.{_≡_};
 ghost use Prim.Native.Nat.{ℕ, _+_, _-_, _*_, _/_, _%_, _^_, _<_, _≤_, min};
 ghost use lib.ListN.{length, getD};
-ghost use Rattle.bits.specs.Bits.{number};
+ghost use lib.Dec.{eqb};
+ghost use Rattle.lists.specs.Lists.{any};
+ghost use Rattle.bits.specs.Bits.{number, numbers};
 ghost use Rattle.bits.specs.Fields.{fieldAt, codeOf};
 ghost use Rattle.bits.specs.Put.{patched, hasRoom, putBits, putInto, putField};
 
@@ -37,26 +39,19 @@ fn wide(x: u8) -> u64
     x as u64
 }
 
-// Two bytes that are there as one number, then four and eight: no test and no loop between the loads, so that they are one load.
-fn two(s: &[u8], at: usize) -> u64
-    requires { ⌜ at + 2 ≤ length (now s) ⌝ }
-    ensures { λ r. ⌜ r ≡ number (now (s .entry)) (at * 8) 16 ⌝ }
-{
-    (wide(s[at]) << 8) + wide(s[at + 1])
-}
-
-fn four(s: &[u8], at: usize) -> u64
-    requires { ⌜ at + 4 ≤ length (now s) ⌝ }
-    ensures { λ r. ⌜ r ≡ number (now (s .entry)) (at * 8) 32 ⌝ }
-{
-    (two(s, at) << 16) + two(s, at + 2)
-}
-
+// Eight bytes that are there as one number: each is shifted on its own in one expression, so that the loads are one load.
 fn eight(s: &[u8], at: usize) -> u64
     requires { ⌜ at + 8 ≤ length (now s) ⌝ }
     ensures { λ r. ⌜ r ≡ number (now (s .entry)) (at * 8) 64 ⌝ }
 {
-    (four(s, at) << 32) + four(s, at + 4)
+    (wide(s[at]) << 56)
+        | (wide(s[at + 1]) << 48)
+        | (wide(s[at + 2]) << 40)
+        | (wide(s[at + 3]) << 32)
+        | (wide(s[at + 4]) << 24)
+        | (wide(s[at + 5]) << 16)
+        | (wide(s[at + 6]) << 8)
+        | wide(s[at + 7])
 }
 
 // Eight bytes of which some are past the end.
@@ -149,6 +144,53 @@ pub fn peek(s: &[u8], p: usize, width: usize) -> u64
         return 0;
     }
     peek64(s, p) >> (64 - width)
+}
+
+// Is x one of the n numbers of 64 bits each from bit number `from` on?
+fn is_spelled(s: &[u8], from: usize, n: usize, x: u64) -> bool
+    requires { ⌜ from + 64 * n < 2 ^ 63 ⌝ }
+    ensures { λ r. ⌜ r ≡ any (eqb x) (numbers (now (s .entry)) from n) ⌝ }
+{
+    let mut p = from;
+    let mut left = n;
+    while 0 < left {
+        if x == peek64(s, p) {
+            return true;
+        }
+        p += 64;
+        left -= 1;
+    }
+    false
+}
+
+// The same of numbers within the bytes. All but the first bits of each are one load, and that most often tells that it is not x.
+fn is_spelled_within(s: &[u8], byte: usize, bit: usize, n: usize, x: u64) -> bool
+    requires { ⌜ (bit ≤ 7) × (byte + 8 * n < length (now s)) × (byte + 8 * n < 2 ^ 60) ⌝ }
+    ensures { λ r. ⌜ r ≡ any (eqb x) (numbers (now (s .entry)) (byte * 8 + bit) n) ⌝ }
+{
+    let rest = 8 - bit;
+    let last = (x << rest) >> rest;
+    let mut at = byte;
+    let mut left = n;
+    while 0 < left {
+        if last == eight(s, at + 1) >> rest {
+            return is_spelled(s, at * 8 + bit, left, x);
+        }
+        at += 8;
+        left -= 1;
+    }
+    false
+}
+
+// Is x one of the n numbers of 64 bits each from bit number p on? Bits past the end are 0.
+pub fn spells(s: &[u8], p: usize, n: usize, x: u64) -> bool
+    requires { ⌜ p + 64 * n < 2 ^ 63 ⌝ }
+    ensures { λ r. ⌜ r ≡ any (eqb x) (numbers (now (s .entry)) p n) ⌝ }
+{
+    if p / 8 + 8 * n < s.len() {
+        return is_spelled_within(s, p / 8, p % 8, n, x);
+    }
+    is_spelled(s, p, n, x)
 }
 
 // The lowest n bits of x, by shifts.

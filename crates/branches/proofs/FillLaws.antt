@@ -1,17 +1,17 @@
 -- An array of 16 numbers filled from the front, one for each policy: the roles and the clause counts of a sheet.
-use Prim.Native.Nat.{ℕ, zero, suc, _+_, _<_, _≤_}
+use Prim.Native.Nat.{ℕ, _+_, _<_, _≤_}
 use native.Mathlib.Omega.{arith}
 use native.Mathlib.Decide.{ℕ-discrete, decLt}
 use mathlib.Core.Path.{_≡_, refl, sym, ap, subst, _∙_}
-use mathlib.Core.Bool.{Bool, false, cond}
-use mathlib.Core.List.{List, [], _∷_, map}
-use lib.ListN.{length, getD, set, length-set, length-map, replicate, getD-replicate, List·getD-eq-default}
+use mathlib.Core.Bool.{Bool, cond}
+use mathlib.Core.List.{List}
+use lib.Dec.{eqb}
+use lib.ListN.{length, getD, set, length-set, replicate, getD-replicate, List·getD-eq-default}
 use lib.Seq.{getD-set-same, getD-set-other}
 use Rattle.meaning.specs.Sheets.{Sheet, policyAt, applies}
-use Rattle.meaning.specs.Allowed.{factsOf, SheetAllowed}
-use Rattle.sheet.specs.declared.Policy as declared
 use Rattle.sheet.specs.declared.Directory.{Directory}
-use Rattle.sheet.specs.Directory.{PolicyAt, Described, noPolicy}
+use Rattle.sheet.specs.Directory.{policyCell, Described}
+use Rattle.sheet.proofs.EntryLaws.{restrictive-so, count-so}
 use Rattle.branches.specs.Parts.{roleOf, RolesAre, CountsAre}
 
 -- the first p numbers are what P says, and the others 0
@@ -37,46 +37,27 @@ filled-more P xs p x l h had = record { sixteen = length-set xs p x ∙ had .six
     before i k (yes e) = subst (λ z. P z (getD (set xs p x) z 0)) (sym e) (subst (P p) (sym (getD-set-same xs p x 0 (let s = had .sixteen in omega arith))) h)
     before i k (no e) = subst (P i) (sym (getD-set-other xs p i x 0 e)) (had .so-far i (omega arith))
 
--- the length of a struct's array of structs, from what owning the struct tells: `search (needs, unmapped)`
-pub unmapped {ℓ κ} : {A : Type ℓ} {B : Type κ} (f : A → B) (l : List A) {n : ℕ} → length (map f l) ≡ n → length l ≡ n
-unmapped f l h = sym (length-map l f) ∙ h
-
--- what an array of policies is read as past its end
-abbrev pub no-entry : declared.Policy
-no-entry = record { restrictive = false; commands = 0; selector = 0; count = 0; clauses = [] }
-
-same-inside : {A : Type 0} (xs : List A) (i : ℕ) (x y : A) → i < length xs → getD xs i x ≡ getD xs i y
-same-inside [] i x y l = absurd (omega arith)
-same-inside (z ∷ xs) zero x y l = refl
-same-inside (z ∷ xs) (suc i) x y l = same-inside xs i x y (omega arith)
-
--- an entry of the directory is its policy's
-entry : (s : List ℕ) (sheet : Sheet) (d : Directory) → Described s sheet d → (p : ℕ) → p < length (d .policy) → p < length (sheet .policies) → PolicyAt s (factsOf sheet) (policyAt sheet p) (getD (d .policy) p no-entry)
-entry s sheet d h p i l = subst (PolicyAt s (factsOf sheet) (policyAt sheet p)) (same-inside (d .policy) p noPolicy no-entry i) (h .policy p l)
-
 -- x is the role of policy i
-pub record RoleAt (s : List ℕ) (d : Directory) (t command i x : ℕ) : Type 0 where
-  pub is : (sheet : Sheet) → Described s sheet d → t < length (sheet .tables) → i < length (sheet .policies) → x ≡ roleOf sheet t command (policyAt sheet i)
+pub record RoleAt (s : List ℕ) (d : Directory) (book : List ℕ) (t command i x : ℕ) : Type 0 where
+  pub is : (sheet : Sheet) → Described s sheet d book → t < length (sheet .tables) → i < length (sheet .policies) → x ≡ roleOf sheet t command (policyAt sheet i)
 
-pub role-at : (s : List ℕ) (d : Directory) (t command i x : ℕ) (r : Bool) → i < length (d .policy) → x ≡ cond r (cond (getD (d .policy) i no-entry .restrictive) 2 1) 0 →
-    ((sheet : Sheet) → Described s sheet d → t < length (sheet .tables) → i < length (sheet .policies) → r ≡ applies sheet t command (policyAt sheet i)) → RoleAt s d t command i x
+pub role-at : (s : List ℕ) (d : Directory) (book : List ℕ) (t command i x : ℕ) (a r : Bool) → x ≡ cond a (cond r 2 1) 0 → (i < 16 → r ≡ eqb (policyCell book i 0) 1) →
+    ((sheet : Sheet) → Described s sheet d book → t < length (sheet .tables) → i < length (sheet .policies) → a ≡ applies sheet t command (policyAt sheet i)) → RoleAt s d book t command i x
 unfolding roleOf
-role-at s d t command i x r l e h =
+role-at s d book t command i x a r e g h =
     record {
-      is = λ sheet f m k.
-          e ∙ ap (λ (b : Bool). cond b (cond (getD (d .policy) i no-entry .restrictive) 2 1) 0) (h sheet f m k)
-          ∙ ap (λ (b : Bool). cond (applies sheet t command (policyAt sheet i)) (cond b 2 1) 0) (entry s sheet d f i l k .restrictive);
+      is = λ sheet f m k. e ∙ ap (λ (b : Bool). cond b (cond r 2 1) 0) (h sheet f m k) ∙ ap (λ (b : Bool). cond (applies sheet t command (policyAt sheet i)) (cond b 2 1) 0) (restrictive-so f i k g);
     }
 
-pub roles-are : (s : List ℕ) (d : Directory) (t command : ℕ) (xs : List ℕ) (p : ℕ) → Filled (RoleAt s d t command) xs p → (sheet : Sheet) → Described s sheet d → length (sheet .policies) ≤ p → t < length (sheet .tables) → p ≤ length (sheet .policies) → RolesAre sheet t command xs
-roles-are s d t command xs p had sheet f l m g = record { counted = λ i k. had .so-far i (omega arith) .is sheet f m k; past = λ i k. had .past i (omega arith) }
+pub roles-are : (s : List ℕ) (d : Directory) (book : List ℕ) (t command : ℕ) (xs : List ℕ) (p : ℕ) → Filled (RoleAt s d book t command) xs p → (sheet : Sheet) → Described s sheet d book → length (sheet .policies) ≤ p → t < length (sheet .tables) → p ≤ length (sheet .policies) → RolesAre sheet t command xs
+roles-are s d book t command xs p had sheet f l m g = record { counted = λ i k. had .so-far i (omega arith) .is sheet f m k; past = λ i k. had .past i (omega arith) }
 
 -- x is the clause count of policy i
-pub record CountAt (d : Directory) (i x : ℕ) : Type 0 where
-  pub is : (s : List ℕ) (sheet : Sheet) → Described s sheet d → i < length (sheet .policies) → x ≡ length (policyAt sheet i .clauses)
+pub record CountAt (book : List ℕ) (i x : ℕ) : Type 0 where
+  pub is : (s : List ℕ) (sheet : Sheet) (d : Directory) → Described s sheet d book → i < length (sheet .policies) → x ≡ length (policyAt sheet i .clauses)
 
-pub count-at : (d : Directory) (i x : ℕ) → i < length (d .policy) → x ≡ getD (d .policy) i no-entry .count → CountAt d i x
-count-at d i x l e = record { is = λ s sheet f k. e ∙ entry s sheet d f i l k .count }
+pub count-at : (book : List ℕ) (i x : ℕ) → (i < 16 → x ≡ policyCell book i 3) → CountAt book i x
+count-at book i x e = record { is = λ s sheet d f k. count-so f i k e }
 
-pub counts-are : (d : Directory) (xs : List ℕ) (p : ℕ) → Filled (CountAt d) xs p → (s : List ℕ) (sheet : Sheet) → Described s sheet d → length (sheet .policies) ≤ p → p ≤ length (sheet .policies) → CountsAre sheet xs
-counts-are d xs p had s sheet f l g = record { counted = λ i k. had .so-far i (omega arith) .is s sheet f k; past = λ i k. had .past i (omega arith) }
+pub counts-are : (d : Directory) (book : List ℕ) (xs : List ℕ) (p : ℕ) → Filled (CountAt book) xs p → (s : List ℕ) (sheet : Sheet) → Described s sheet d book → length (sheet .policies) ≤ p → p ≤ length (sheet .policies) → CountsAre sheet xs
+counts-are d book xs p had s sheet f l g = record { counted = λ i k. had .so-far i (omega arith) .is s sheet d f k; past = λ i k. had .past i (omega arith) }

@@ -8,6 +8,7 @@ use mathlib.Core.List.{List, [], _∷_, _++_, map, append-assoc}
 use lib.ListN.{length, getD, List·getD-eq-default}
 use lib.Dec.{eqb}
 use Rattle.lists.specs.Lists.{keep, each, All}
+use Rattle.lists.proofs.ListLaws.{all-at}
 use Rattle.meaning.specs.Atoms.{Clause}
 use Rattle.meaning.specs.Sheets.{Policy, all, Sheet, policyAt, applies, permissive, restrictive, joined, choices, branches, branchCount}
 use Rattle.meaning.specs.Allowed.{factsOf, PolicyAllowed, SheetAllowed}
@@ -99,17 +100,12 @@ module _ (sheet : Sheet) (t command : ℕ) (roles : List ℕ) (few : length (she
   pub count-is : (counts : List ℕ) → Sized counts (clausesOf sheet) → sumTo roles counts 16 * productTo roles counts 16 ≡ branchCount sheet t command
   count-is counts s = sym (branches-length roles counts (clausesOf sheet) s) ∙ ap length (sym branches-are) ∙ branches-counted sheet t command
 
-pub all-at : {A : Type 0} (P : A → Type 0) (d : A) (xs : List A) → All P xs → (k : ℕ) → k < length xs → P (getD xs k d)
-all-at P d [] h k l = absurd (omega arith)
-all-at P d (x ∷ xs) h zero l = h .0
-all-at P d (x ∷ xs) h (suc k) l = all-at P d xs (h .1) k (omega arith)
-
 -- "clause count": "0..8"
 pub counts-sized : (sheet : Sheet) (counts : List ℕ) → SheetAllowed sheet → CountsAre sheet counts → Sized counts (clausesOf sheet)
 counts-sized sheet counts allowed are p l = go (decLt p (length (sheet .policies)))
   where
     go : Dec (p < length (sheet .policies)) → (length (clausesOf sheet p) ≡ getD counts p 0) × (length (clausesOf sheet p) ≤ 8)
-    go (yes h) = (sym (are .counted p h), all-at (PolicyAllowed (factsOf sheet)) none (sheet .policies) (allowed .each-policy) p h .3)
+    go (yes h) = (sym (are .counted p h), all-at (PolicyAllowed (factsOf sheet)) none (sheet .policies) p h (allowed .each-policy) .3)
     go (no h) =
         let past : length (sheet .policies) ≤ p = omega arith in
         let e : clausesOf sheet p ≡ [] = ap (λ q. q .clauses) (List·getD-eq-default (sheet .policies) none past) in

@@ -165,8 +165,8 @@ fn role_of(applies: bool, restrictive: bool) -> u64
 }
 
 // The roles of a sheet's policies for a table and command.
-pub fn roles(s: &[u8], d: Directory, t: usize, command: u64) -> [u64; 16]
-    ensures { λ r. ⌜ ((sheet : Sheet) → Described (now (s .entry)) sheet d → SheetAllowed sheet → t < length (sheet .tables) → RolesAre sheet t command r) ⌝ }
+pub fn roles(s: &[u8], d: Directory, book: &[u32], t: usize, command: u64) -> [u64; 16]
+    ensures { λ r. ⌜ ((sheet : Sheet) → Described (now (s .entry)) sheet d (now (book .entry)) → SheetAllowed sheet → t < length (sheet .tables) → RolesAre sheet t command r) ⌝ }
 {
     let n = d.policies;
     let mut roles = [0u64; 16];
@@ -175,17 +175,16 @@ pub fn roles(s: &[u8], d: Directory, t: usize, command: u64) -> [u64; 16]
         if n <= p as u64 {
             return roles;
         }
-        let policy = d.policy[p];
-        let restrictive = policy.restrictive;
-        roles[p] = role_of(sheet::applies(s, d, t, command, p), restrictive);
+        let restrictive = sheet::entries::restrictive_of(book, p);
+        roles[p] = role_of(sheet::applies(s, d, book, t, command, p), restrictive);
         p += 1;
     }
     roles
 }
 
 // The clause counts of a sheet's policies.
-pub fn counts(d: Directory) -> [u64; 16]
-    ensures { λ r. ⌜ ((s : List ℕ) (sheet : Sheet) → Described s sheet d → SheetAllowed sheet → CountsAre sheet r) ⌝ }
+pub fn counts(d: Directory, book: &[u32]) -> [u64; 16]
+    ensures { λ r. ⌜ ((s : List ℕ) (sheet : Sheet) → Described s sheet d (now (book .entry)) → SheetAllowed sheet → CountsAre sheet r) ⌝ }
 {
     let n = d.policies;
     let mut counts = [0u64; 16];
@@ -194,9 +193,7 @@ pub fn counts(d: Directory) -> [u64; 16]
         if n <= p as u64 {
             return counts;
         }
-        let policy = d.policy[p];
-        let count = policy.count;
-        counts[p] = count as u64;
+        counts[p] = sheet::entries::count_of(book, p) as u64;
         p += 1;
     }
     counts

@@ -13,29 +13,27 @@ use meaning::Clause;
 use sheet::Directory;
 
 // Clause number k of policy p.
-pub fn clause_of(s: &[u8], d: Directory, p: usize, k: usize) -> Clause
+pub fn clause_of(s: &[u8], d: Directory, book: &[u32], p: usize, k: usize) -> Clause
     requires { ⌜ (p < 16) × (k < 8) ⌝ }
-    ensures { λ r. ⌜ ((sheet : Sheet) → Read (now (s .entry)) d sheet → p < length (sheet .policies) → k < length (clausesAt sheet p) → clauseOf r ≡ getD (clausesAt sheet p) k []) ⌝ }
+    ensures { λ r. ⌜ ((sheet : Sheet) → Read (now (s .entry)) d (now (book .entry)) sheet → p < length (sheet .policies) → k < length (clausesAt sheet p) → clauseOf r ≡ getD (clausesAt sheet p) k []) ⌝ }
 {
-    let policy = d.policy[p];
-    let at = policy.clauses[k];
+    let at = sheet::entries::start_of(book, p, k);
     let facts = d.facts;
     sheet::clause_at(s, at, facts)
 }
 
 // Is the clause covered by a single clause of policy a?
-fn covered(s: &[u8], d: Directory, a: usize, q: Clause, top: [u64; 32]) -> bool
+fn covered(s: &[u8], d: Directory, book: &[u32], a: usize, q: Clause, top: [u64; 32]) -> bool
     requires { ⌜ a < 16 ⌝ }
-    ensures { λ r. ⌜ TellsCovered (now (s .entry)) d top a (clauseOf q) r ⌝ }
+    ensures { λ r. ⌜ TellsCovered (now (s .entry)) d (now (book .entry)) top a (clauseOf q) r ⌝ }
 {
-    let policy = d.policy[a];
-    let count = policy.count;
+    let count = sheet::entries::count_of(book, a);
     let mut i: usize = 0;
     while i < 8 {
         if count <= i {
             return false;
         }
-        let p = clause_of(s, d, a, i);
+        let p = clause_of(s, d, book, a, i);
         if asked::clause_covers(p, q, top) {
             return true;
         }
@@ -45,30 +43,36 @@ fn covered(s: &[u8], d: Directory, a: usize, q: Clause, top: [u64; 32]) -> bool
 }
 
 // Is the clause covered by a single clause of policy a, or met by no row and session?
-fn spared(s: &[u8], d: Directory, a: usize, q: Clause, top: [u64; 32]) -> bool
+fn spared(s: &[u8], d: Directory, book: &[u32], a: usize, q: Clause, top: [u64; 32]) -> bool
     requires { ⌜ a < 16 ⌝ }
-    ensures { λ r. ⌜ TellsSpared (now (s .entry)) d top a (clauseOf q) r ⌝ }
+    ensures { λ r. ⌜ TellsSpared (now (s .entry)) d (now (book .entry)) top a (clauseOf q) r ⌝ }
 {
     if asked::satisfiable(q, top) {
-        return covered(s, d, a, q, top);
+        return covered(s, d, book, a, q, top);
     }
     true
 }
 
 // Does policy a cover policy b?
-pub fn policy_covers(s: &[u8], d: Directory, a: usize, b: usize, top: [u64; 32]) -> bool
+pub fn policy_covers(
+    s: &[u8],
+    d: Directory,
+    book: &[u32],
+    a: usize,
+    b: usize,
+    top: [u64; 32],
+) -> bool
     requires { ⌜ (a < 16) × (b < 16) ⌝ }
-    ensures { λ r. ⌜ TellsCovers (now (s .entry)) d top a b r ⌝ }
+    ensures { λ r. ⌜ TellsCovers (now (s .entry)) d (now (book .entry)) top a b r ⌝ }
 {
-    let policy = d.policy[b];
-    let count = policy.count;
+    let count = sheet::entries::count_of(book, b);
     let mut i: usize = 0;
     while i < 8 {
         if count <= i {
             return true;
         }
-        let q = clause_of(s, d, b, i);
-        if spared(s, d, a, q, top) {
+        let q = clause_of(s, d, book, b, i);
+        if spared(s, d, book, a, q, top) {
             i += 1;
         } else {
             return false;

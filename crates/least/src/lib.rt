@@ -171,18 +171,18 @@ fn strike(s: &[u64], i: usize, x: u64, marks: &mut [u8; 2112])
     }
 }
 
-// The struck-out values of class r from x on, gathered: more places than eight values of each of 258 atoms.
-fn gather(s: &[u64], rep: [u64; 32], r: u64, x: u64) -> [u8; 2112]
-    ensures { λ m. ⌜ Marks (now (s .entry)) rep r x (length (now (s .entry)) / 11) m ⌝ }
+// The struck-out values of class r from x on, gathered where nothing is marked yet: more places than eight values of each of 258 atoms.
+fn gather(s: &[u64], rep: [u64; 32], r: u64, x: u64, marks: &mut [u8; 2112])
+    requires { ⌜ (length (now marks) ≡ 2112) × Marks (now s) rep r x 0 (now marks) ⌝ }
+    ensures { λ m. ⌜ Marks (now (s .entry)) rep r x (length (now (s .entry)) / 11) (now (marks .exit)) ⌝ }
 {
     let n = s.len() / 11;
-    let mut marks = [0u8; 2112];
     let mut i = 0;
     while i < n {
         let v = var_at(s, i);
         if rep[v] == r {
             if s[i * 11 + 1] == 2 {
-                strike(s, i, x, &mut marks);
+                strike(s, i, x, marks);
                 i += 1;
             } else {
                 i += 1;
@@ -191,7 +191,6 @@ fn gather(s: &[u64], rep: [u64; 32], r: u64, x: u64) -> [u8; 2112]
             i += 1;
         }
     }
-    marks
 }
 
 fn gap(marks: &[u8; 2112]) -> usize
@@ -214,7 +213,8 @@ fn first_free(s: &[u64], rep: [u64; 32], r: u64, low: u64, high: u64) -> Found
 {
     let mut x = low;
     while x <= high {
-        let marks = gather(s, rep, r, x);
+        let mut marks = [0u8; 2112];
+        gather(s, rep, r, x, &mut marks);
         let j = gap(&marks);
         let d = j as u64;
         if high - x < d {

@@ -1,25 +1,22 @@
 -- Laying the policies that count: clause by clause, policy by policy.
-use Prim.Native.Nat.{ℕ, zero, suc, _+_, _<_, _≤_}
+use Prim.Native.Nat.{ℕ, zero, suc, _+_, _*_, _<_, _≤_}
 use native.Mathlib.Numerals.{add-one}
 use native.Mathlib.Omega.{arith}
 use mathlib.Core.Path.{_≡_, refl, sym, ap, subst, _∙_}
-use mathlib.Core.Bool.{Bool, true, false, cond}
-use mathlib.Core.List.{List, [], _∷_, _++_, map, append-assoc, append-nil}
-use lib.ListN.{length, length-map, getD, take, set}
-use lib.Seq.{take-suc, take-all}
-use Rattle.lists.specs.Lists.{All, keep, each}
+use mathlib.Core.Bool.{Bool, true, false, cond, _&&_}
+use mathlib.Core.List.{List, [], _∷_, _++_, map, append-nil}
+use lib.ListN.{length, getD, take, set}
+use lib.Seq.{take-suc, take-all, getD-set-same, getD-set-other}
+use lib.Dec.{eqb}
+use Rattle.lists.specs.Lists.{keep, each}
+use Rattle.lists.proofs.ListLaws.{each-append}
 use Rattle.meaning.specs.Values.{Kind}
 use Rattle.meaning.specs.Atoms.{Clause}
-use Rattle.meaning.specs.Sheets.{Policy, Sheet, all, kindOf, policyAt, applies}
-use Rattle.meaning.specs.Allowed.{factsOf, PolicyAllowed, SheetAllowed}
-use Rattle.sheet.specs.declared.Policy as s
-use Rattle.sheet.specs.Directory.{noPolicy, PolicyAt}
-use Rattle.admission.specs.Plan.{Item, policy-end, clauseItems, policyItems, counted, planOf, itemOf}
-use Rattle.admission.proofs.LaidLaws.{word-more}
-
-pub each-append : {A B : Type 0} (f : A → List B) (xs ys : List A) → each f (xs ++ ys) ≡ each f xs ++ each f ys
-each-append f [] ys = refl
-each-append f (x ∷ xs) ys = ap (λ l. f x ++ l) (each-append f xs ys) ∙ sym (append-assoc (f x) (each f xs) (each f ys))
+use Rattle.meaning.specs.Sheets as m
+use Rattle.meaning.specs.Sheets.{Policy, Sheet, kindOf, policyAt, applies, permissive, restrictive}
+use Rattle.sheet.specs.Directory.{policyCell, PolicyAt}
+use Rattle.admission.specs.Plan.{ClauseLaid, ClausesLaid, slotOf, PoliciesLaid, PlanLaid, Outside}
+use Rattle.admission.proofs.PlanLaws.{clauses-kept, clauses-join, policies-more, policies-kept}
 
 pub keep-append : {A : Type 0} (f : A → Bool) (xs ys : List A) → keep f (xs ++ ys) ≡ keep f xs ++ keep f ys
 keep-append f [] ys = refl
@@ -29,80 +26,138 @@ keep-append f (x ∷ xs) ys = go (f x) (keep-append f xs ys)
     go true ih = ap (λ l. x ∷ l) ih
     go false ih = ih
 
-pub take-more : {A : Type 0} (xs : List A) (k : ℕ) (d : A) → k < length xs → take (k + 1) xs ≡ take k xs ++ (getD xs k d ∷ [])
+map-append : {A B : Type 0} (f : A → B) (xs ys : List A) → map f (xs ++ ys) ≡ map f xs ++ map f ys
+map-append f [] ys = refl
+map-append f (x ∷ xs) ys = ap (λ l. f x ∷ l) (map-append f xs ys)
+
+take-more : {A : Type 0} (xs : List A) (k : ℕ) (d : A) → k < length xs → take (k + 1) xs ≡ take k xs ++ (getD xs k d ∷ [])
 take-more xs k d l = ap (λ j. take j xs) (add-one k) ∙ take-suc xs k d l
 
--- k clauses of a policy are laid behind what stood there
-abbrev pub ClausesLaid : Sheet → List ℕ → List Clause → List Item → ℕ → List ℕ → ℕ → Type 0
-ClausesLaid facts s cs front k plan at = map (itemOf (kindOf facts) s) (take at plan) ≡ front ++ each clauseItems (take k cs)
+-- k clauses of a policy are laid from a slot on
+module _ (kind : ℕ → Kind) (s : List ℕ) (slot : ℕ) (cs : List Clause) where
+  pub clauses-start : (ws heads : List ℕ) → ClausesLaid kind s ws heads slot (slot + 0) (take 0 cs)
+  clauses-start ws heads = record { size = refl; each = λ k l. absurd (omega arith) }
 
-module _ (facts : Sheet) (s : List ℕ) (cs : List Clause) (front : List Item) where
-  pub clauses-more : (k at next : ℕ) (plan after : List ℕ) → k < length cs → ClausesLaid facts s cs front k plan at →
-      map (itemOf (kindOf facts) s) (take next after) ≡ map (itemOf (kindOf facts) s) (take at plan) ++ clauseItems (getD cs k []) → ClausesLaid facts s cs front (k + 1) after next
-  clauses-more k at next plan after l g e =
-      e ∙ ap (λ xs. xs ++ clauseItems (getD cs k [])) g
-      ∙ append-assoc front (each clauseItems (take k cs)) (clauseItems (getD cs k []))
-      ∙ ap (λ xs. front ++ xs) (sym (ap (each clauseItems) (take-more cs k [] l) ∙ each-append clauseItems (take k cs) (getD cs k [] ∷ []) ∙ ap (λ xs. each clauseItems (take k cs) ++ xs) (append-nil (clauseItems (getD cs k [])))))
+  pub clauses-on : (k head : ℕ) (ws after heads : List ℕ) → k < length cs → slot + k < length heads → Outside ((slot + k) * 8) ((slot + k) * 8 + 8) ws after → ClauseLaid kind s after (slot + k) head (getD cs k []) →
+      ClausesLaid kind s ws heads slot (slot + k) (take k cs) → ClausesLaid kind s after (set heads (slot + k) head) slot (slot + (k + 1)) (take (k + 1) cs)
+  clauses-on k head ws after heads l room w new L =
+      subst (ClausesLaid kind s after (set heads (slot + k) head) slot (slot + (k + 1))) (sym (take-more cs k [] l))
+      (clauses-join kind s after (set heads (slot + k) head) slot (slot + k) (slot + (k + 1)) (take k cs) (getD cs k [] ∷ []) kept one)
+    where
+      kept : ClausesLaid kind s after (set heads (slot + k) head) slot (slot + k) (take k cs)
+      kept = clauses-kept kind s ws after heads (set heads (slot + k) head) slot (slot + k) (take k cs) (λ j a b. w .below j (omega arith)) (λ j a b. getD-set-other heads (slot + k) j head 0 (λ z. omega arith)) L
 
-  -- and the policy's end behind them
-  policy-laid : (b : Bool) (w k at : ℕ) (plan : List ℕ) → at < length plan → length cs ≤ k → itemOf (kindOf facts) s w ≡ policy-end b → ClausesLaid facts s cs front k plan at →
-      map (itemOf (kindOf facts) s) (take (at + 1) (set plan at w)) ≡ front ++ (each clauseItems cs ++ (policy-end b ∷ []))
-  policy-laid b w k at plan room l is g =
-      word-more (kindOf facts) s plan at w room
-      ∙ (λ i. (g ∙ ap (λ xs. front ++ each clauseItems xs) (take-all k cs l)) i ++ (is i ∷ []))
-      ∙ append-assoc front (each clauseItems cs) (policy-end b ∷ [])
+      here : (i : ℕ) → i < 1 → ClauseLaid kind s after (slot + k + i) (getD (set heads (slot + k) head) (slot + k + i) 0) (getD (getD cs k [] ∷ []) i [])
+      here zero m =
+          let z : slot + k ≡ slot + k + 0 = omega arith in
+          subst (λ j. ClauseLaid kind s after j (getD (set heads (slot + k) head) j 0) (getD cs k [])) z (subst (λ h. ClauseLaid kind s after (slot + k) h (getD cs k [])) (sym (getD-set-same heads (slot + k) head 0 room)) new)
+      here (suc i) m = absurd (omega arith)
 
-module _ (facts : Sheet) (s : List ℕ) (p : Policy) (front : List Item) (k at : ℕ) (plan : List ℕ) (room : at < length plan) (l : length (p .clauses) ≤ k) (g : ClausesLaid facts s (p .clauses) front k plan at) where
-  pub restrictive-laid : {b : Bool} → b ≡ p .restrictive → b ≡ true → map (itemOf (kindOf facts) s) (take (at + 1) (set plan at 11)) ≡ front ++ policyItems p
-  unfolding itemOf
-  restrictive-laid e h = policy-laid facts s (p .clauses) front true 11 k at plan room l refl g ∙ ap (λ b. front ++ (each clauseItems (p .clauses) ++ (policy-end b ∷ []))) (sym h ∙ e)
+      one : ClausesLaid kind s after (set heads (slot + k) head) (slot + k) (slot + (k + 1)) (getD cs k [] ∷ [])
+      one = record { size = omega arith; each = here }
 
-  pub permissive-laid : {b : Bool} → b ≡ p .restrictive → b ≡ false → map (itemOf (kindOf facts) s) (take (at + 1) (set plan at 10)) ≡ front ++ policyItems p
-  unfolding itemOf
-  permissive-laid e h = policy-laid facts s (p .clauses) front false 10 k at plan room l refl g ∙ ap (λ b. front ++ (each clauseItems (p .clauses) ++ (policy-end b ∷ []))) (sym h ∙ e)
+  pub clauses-done : (k n : ℕ) (ws heads : List ℕ) → k ≡ n → length cs ≤ k → ClausesLaid kind s ws heads slot (slot + k) (take k cs) → ClausesLaid kind s ws heads slot (slot + n) cs
+  clauses-done k n ws heads e l L = subst (λ m. ClausesLaid kind s ws heads slot (slot + m) cs) e (subst (ClausesLaid kind s ws heads slot (slot + k)) (take-all k cs l) L)
+
+-- the clauses of those of the first p policies that pass a test
+abbrev chosen : Sheet → (Policy → Bool) → ℕ → List (List Clause)
+chosen sheet f p = map (λ x. x .clauses) (keep f (take p (sheet .policies)))
+
+module _ (sheet : Sheet) (f : Policy → Bool) (p : ℕ) (l : p < length (sheet .policies)) where
+  one-more : keep f (take (p + 1) (sheet .policies)) ≡ keep f (take p (sheet .policies)) ++ cond (f (policyAt sheet p)) (policyAt sheet p ∷ []) []
+  one-more = ap (keep f) (take-more (sheet .policies) p (record { restrictive = false; commands = 0; selector = m.all; clauses = [] }) l) ∙ keep-append f (take p (sheet .policies)) (policyAt sheet p ∷ [])
+
+  chosen-more : f (policyAt sheet p) ≡ true → chosen sheet f (p + 1) ≡ chosen sheet f p ++ (policyAt sheet p .clauses ∷ [])
+  chosen-more t = ap (map (λ x. x .clauses)) (one-more ∙ ap (λ b. keep f (take p (sheet .policies)) ++ cond b (policyAt sheet p ∷ []) []) t) ∙ map-append (λ x. x .clauses) (keep f (take p (sheet .policies))) (policyAt sheet p ∷ [])
+
+  chosen-same : f (policyAt sheet p) ≡ false → chosen sheet f (p + 1) ≡ chosen sheet f p
+  chosen-same t = ap (map (λ x. x .clauses)) (one-more ∙ ap (λ b. keep f (take p (sheet .policies)) ++ cond b (policyAt sheet p ∷ []) []) t ∙ append-nil (keep f (take p (sheet .policies))))
 
 -- the first p policies are laid, those that count
-abbrev pub PoliciesLaid : Sheet → ℕ → ℕ → List ℕ → ℕ → List ℕ → ℕ → Type 0
-PoliciesLaid sheet t command s p plan at = map (itemOf (kindOf sheet) s) (take at plan) ≡ each policyItems (keep (applies sheet t command) (take p (sheet .policies)))
+abbrev permits : Sheet → ℕ → ℕ → Policy → Bool
+permits sheet t command x = cond (x .restrictive) false (applies sheet t command x)
 
-module _ (sheet : Sheet) (t command : ℕ) (s : List ℕ) (p at : ℕ) (plan : List ℕ) (l : p < length (sheet .policies)) (g : PoliciesLaid sheet t command s p plan at) where
-  one-more : keep (applies sheet t command) (take (p + 1) (sheet .policies)) ≡ keep (applies sheet t command) (take p (sheet .policies)) ++ cond (applies sheet t command (policyAt sheet p)) (policyAt sheet p ∷ []) []
-  one-more = ap (keep (applies sheet t command)) (take-more (sheet .policies) p (record { restrictive = false; commands = 0; selector = all; clauses = [] }) l) ∙ keep-append (applies sheet t command) (take p (sheet .policies)) (policyAt sheet p ∷ [])
+abbrev restricts : Sheet → ℕ → ℕ → Policy → Bool
+restricts sheet t command x = x .restrictive && applies sheet t command x
 
-  pub policies-more : (next : ℕ) (after : List ℕ) {b : Bool} → b ≡ applies sheet t command (policyAt sheet p) → b ≡ true →
-      map (itemOf (kindOf sheet) s) (take next after) ≡ map (itemOf (kindOf sheet) s) (take at plan) ++ policyItems (policyAt sheet p) → PoliciesLaid sheet t command s (p + 1) after next
-  policies-more next after e h f =
-      let kept = keep (applies sheet t command) (take p (sheet .policies)) in
-      f ∙ ap (λ xs. xs ++ policyItems (policyAt sheet p)) g
-      ∙ sym (ap (each policyItems) (one-more ∙ ap (λ b. kept ++ cond b (policyAt sheet p ∷ []) []) (sym e ∙ h)) ∙ each-append policyItems kept (policyAt sheet p ∷ []) ∙ ap (λ xs. each policyItems kept ++ xs) (append-nil (policyItems (policyAt sheet p))))
+abbrev pub PlanTo : Sheet → ℕ → ℕ → List ℕ → ℕ → (ws heads counts : List ℕ) → (some all : ℕ) → Type 0
+PlanTo sheet t command s p ws heads counts some all =
+    PlanLaid (kindOf sheet) s ws heads counts some all (each (λ cs. cs) (chosen sheet (permits sheet t command) p)) (chosen sheet (restricts sheet t command) p)
 
-  pub policies-skip : {b : Bool} → b ≡ applies sheet t command (policyAt sheet p) → b ≡ false → PoliciesLaid sheet t command s (p + 1) plan at
-  policies-skip e h =
-      let kept = keep (applies sheet t command) (take p (sheet .policies)) in
-      g ∙ sym (ap (each policyItems) (one-more ∙ ap (λ b. kept ++ cond b (policyAt sheet p ∷ []) []) (sym e ∙ h) ∙ append-nil kept))
+pub plan-start : (sheet : Sheet) (t command : ℕ) (s ws heads counts : List ℕ) → PlanTo sheet t command s 0 ws heads counts 0 0
+plan-start sheet t command s ws heads counts =
+    record {
+      permissive = record { size = refl; each = λ k l. absurd (omega arith) };
+      restrictive = record { size = refl; few = λ i l. absurd (omega arith); each = λ i l. absurd (omega arith) };
+    }
 
-pub policies-done : (sheet : Sheet) (t command : ℕ) (s : List ℕ) (p at : ℕ) (plan : List ℕ) → length (sheet .policies) ≤ p → PoliciesLaid sheet t command s p plan at → map (itemOf (kindOf sheet) s) (take at plan) ≡ planOf sheet t command
-unfolding planOf
-policies-done sheet t command s p at plan l g = g ∙ ap (λ ps. each policyItems (keep (applies sheet t command) ps)) (take-all p (sheet .policies) l)
+pub plan-done : (sheet : Sheet) (t command : ℕ) (s : List ℕ) (p : ℕ) (ws heads counts : List ℕ) (some all : ℕ) → length (sheet .policies) ≤ p → PlanTo sheet t command s p ws heads counts some all →
+    PlanLaid (kindOf sheet) s ws heads counts some all (each (λ cs. cs) (permissive sheet t command)) (restrictive sheet t command)
+plan-done sheet t command s p ws heads counts some all l g =
+    subst (λ ps. PlanLaid (kindOf sheet) s ws heads counts some all (each (λ cs. cs) (map (λ x. x .clauses) (keep (permits sheet t command) ps))) (map (λ x. x .clauses) (keep (restricts sheet t command) ps))) (take-all p (sheet .policies) l) g
 
--- an allowed sheet's policies have at most eight clauses each
-few : (facts : Sheet) (ps : List Policy) (d : Policy) (i : ℕ) → All (PolicyAllowed facts) ps → length (d .clauses) ≤ 8 → length (getD ps i d .clauses) ≤ 8
-few facts [] d i a h = h
-few facts (p ∷ ps) d zero a h = a .0 .3
-few facts (p ∷ ps) d (suc i) a h = few facts ps d i (a .1) h
+shut : (b : Bool) → cond b false false ≡ false
+shut true = refl
+shut false = refl
 
-pub few-clauses : (sheet : Sheet) (p : ℕ) → SheetAllowed sheet → length (policyAt sheet p .clauses) ≤ 8
-few-clauses sheet p a = few (factsOf sheet) (sheet .policies) (record { restrictive = false; commands = 0; selector = all; clauses = [] }) p (a .each-policy) (omega arith)
+never : (b : Bool) → (b && false) ≡ false
+never true = refl
+never false = refl
 
--- the length of a struct's array of structs, from what owning the struct tells: `search (needs, unmapped)`
-pub unmapped {ℓ κ} : {A : Type ℓ} {B : Type κ} (f : A → B) (l : List A) {n : ℕ} → length (map f l) ≡ n → length l ≡ n
-unmapped f l h = sym (length-map l f) ∙ h
+module _ (sheet : Sheet) (t command : ℕ) (s : List ℕ) (p : ℕ) (ws heads counts : List ℕ) (some all : ℕ) (l : p < length (sheet .policies)) (g : PlanTo sheet t command s p ws heads counts some all) where
+  abbrev x : Policy
+  x = policyAt sheet p
 
--- what an array of policies is read as past its end, where nobody looks
-same-there : {A : Type 0} (xs : List A) (i : ℕ) (d e : A) → i < length xs → getD xs i d ≡ getD xs i e
-same-there [] i d e l = absurd (omega arith)
-same-there (x ∷ xs) zero d e l = refl
-same-there (x ∷ xs) (suc i) d e l = same-there xs i d e (omega arith)
+  abbrev Laid : (ws heads counts : List ℕ) → (some all : ℕ) → List (List Clause) → List (List Clause) → Type 0
+  Laid ws heads counts some all cs ps = PlanLaid (kindOf sheet) s ws heads counts some all (each (λ cs. cs) cs) ps
 
-pub policy-there : (b : List ℕ) (facts : Sheet) (p : Policy) (ds : List s.Policy) (i : ℕ) → i < length ds → PolicyAt b facts p (getD ds i noPolicy) → PolicyAt b facts p (getD ds i (record { restrictive = false; commands = 0; selector = 0; count = 0; clauses = [] }))
-policy-there b facts p ds i l h = subst (PolicyAt b facts p) (same-there ds i noPolicy (record { restrictive = false; commands = 0; selector = 0; count = 0; clauses = [] }) l) h
+  -- a policy that does not count
+  pub plan-skip : {b : Bool} → b ≡ applies sheet t command x → b ≡ false → PlanTo sheet t command s (p + 1) ws heads counts some all
+  plan-skip e h =
+      let is : applies sheet t command x ≡ false = sym e ∙ h in
+      let a = chosen-same sheet (permits sheet t command) p l (ap (λ b. cond (x .restrictive) false b) is ∙ shut (x .restrictive)) in
+      let r = chosen-same sheet (restricts sheet t command) p l (ap (λ b. x .restrictive && b) is ∙ never (x .restrictive)) in
+      subst (λ cs. Laid ws heads counts some all cs (chosen sheet (restricts sheet t command) (p + 1))) (sym a) (subst (Laid ws heads counts some all (chosen sheet (permits sheet t command) p)) (sym r) g)
+
+  module _ {b : Bool} (e : b ≡ applies sheet t command x) (h : b ≡ true) {c : Bool} (type : c ≡ x .restrictive) (i : p < 16) (near : some + 8 * all ≤ 8 * p) where
+    is : applies sheet t command x ≡ true
+    is = sym e ∙ h
+
+    -- one that restricts has its own slots
+    pub plan-restricts : (m : ℕ) (after headsAfter : List ℕ) → c ≡ true → all < length counts → m ≤ 8 → Outside (slotOf all * 8) (slotOf all * 8 + 64) ws after → Outside (slotOf all) (slotOf all + 8) heads headsAfter →
+        ClausesLaid (kindOf sheet) s after headsAfter (slotOf all) (slotOf all + m) (x .clauses) → PlanTo sheet t command s (p + 1) after headsAfter (set counts all m) some (all + 1)
+    plan-restricts m after headsAfter so room few w v new =
+        let r : x .restrictive ≡ true = sym type ∙ so in
+        let a = chosen-same sheet (permits sheet t command) p l (ap (λ b. cond b false (applies sheet t command x)) r) in
+        let d = chosen-more sheet (restricts sheet t command) p l ((λ y. r y && is y)) in
+        subst (λ cs. Laid after headsAfter (set counts all m) some (all + 1) cs (chosen sheet (restricts sheet t command) (p + 1))) (sym a) (subst (Laid after headsAfter (set counts all m) some (all + 1) (chosen sheet (permits sheet t command) p)) (sym d) (record {
+          permissive = clauses-kept (kindOf sheet) s ws after heads headsAfter 0 some (each (λ cs. cs) (chosen sheet (permits sheet t command) p)) (λ j a b. w .below j (omega arith)) (λ j a b. v .below j (omega arith)) (g .permissive);
+          restrictive = policies-more (kindOf sheet) s after headsAfter counts all m (chosen sheet (restricts sheet t command) p) (x .clauses) room few
+              (policies-kept (kindOf sheet) s ws after heads headsAfter counts all (chosen sheet (restricts sheet t command) p) (omega arith) (λ j a b. w .above j (omega arith)) (λ j a b. v .above j (omega arith)) (g .restrictive))
+              new;
+        }))
+
+    -- one that permits stands behind those that do
+    pub plan-permits : (m : ℕ) (after headsAfter : List ℕ) → c ≡ false → Outside (some * 8) (some * 8 + 64) ws after → Outside some (some + 8) heads headsAfter →
+        ClausesLaid (kindOf sheet) s after headsAfter some (some + m) (x .clauses) → PlanTo sheet t command s (p + 1) after headsAfter counts (some + m) all
+    plan-permits m after headsAfter so w v new =
+        let r : x .restrictive ≡ false = sym type ∙ so in
+        let a = chosen-more sheet (permits sheet t command) p l ((λ y. cond (r y) false (is y))) in
+        let d = chosen-same sheet (restricts sheet t command) p l (ap (λ b. b && applies sheet t command x) r) in
+        let f : each (λ cs. cs) (chosen sheet (permits sheet t command) (p + 1)) ≡ each (λ cs. cs) (chosen sheet (permits sheet t command) p) ++ x .clauses =
+        ap (each (λ cs. cs)) a ∙ each-append (λ cs. cs) (chosen sheet (permits sheet t command) p) (x .clauses ∷ []) ∙ ap (λ cs. each (λ cs. cs) (chosen sheet (permits sheet t command) p) ++ cs) (append-nil (x .clauses)) in
+        record {
+          permissive = subst (ClausesLaid (kindOf sheet) s after headsAfter 0 (some + m)) (sym f) (clauses-join (kindOf sheet) s after headsAfter 0 some (some + m) (each (λ cs. cs) (chosen sheet (permits sheet t command) p)) (x .clauses)
+              (clauses-kept (kindOf sheet) s ws after heads headsAfter 0 some (each (λ cs. cs) (chosen sheet (permits sheet t command) p)) (λ j a b. w .below j (omega arith)) (λ j a b. v .below j (omega arith)) (g .permissive))
+              new);
+          restrictive = subst (PoliciesLaid (kindOf sheet) s after headsAfter counts all) (sym d)
+              (policies-kept (kindOf sheet) s ws after heads headsAfter counts all (chosen sheet (restricts sheet t command) p) (omega arith) (λ j a b. w .above j (omega arith)) (λ j a b. v .above j (omega arith)) (g .restrictive));
+        }
+
+-- a policy's type and number of clauses, as the book has them
+module _ {s : List ℕ} {facts : Sheet} {x : Policy} {b : List ℕ} {p : ℕ} (P : PolicyAt s facts x b (48 + p * 12)) (h : p < 16) where
+  pub type-so : {r : Bool} → (p < 16 → r ≡ eqb (policyCell b p 0) 1) → r ≡ x .restrictive
+  type-so e = let z : 48 + p * 12 + 0 ≡ 48 + p * 12 = omega arith in e h ∙ ap (λ y. eqb (getD b y 0) 1) z ∙ P .restrictive
+
+  pub number-so : {n : ℕ} → (p < 16 → n ≡ policyCell b p 3) → n ≡ length (x .clauses)
+  number-so e = e h ∙ P .count

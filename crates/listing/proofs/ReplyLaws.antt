@@ -2,23 +2,19 @@
 use Prim.Native.Nat.{ℕ, _<_, _≤_}
 use native.Mathlib.Decide.{decLt}
 use native.Mathlib.Omega.{arith}
-use mathlib.Core.Path.{_≡_, refl, sym, ap, subst, _∙_}
-use mathlib.Core.Bool.{Bool, true, false, cond, _&&_}
+use mathlib.Core.Path.{_≡_, refl, sym, subst, _∙_}
+use mathlib.Core.Bool.{Bool, true, false}
 use mathlib.Core.List.{List}
 use lib.ListN.{length}
-use lib.Dec.{ltb, leb}
+use lib.Dec.{leb}
 use borrow.Author.Tests.{lt-ltb, le-ltb, le-leb, lt-leb, leb-true}
 use Rattle.meaning.specs.declared.Listed.{Listed}
-use Rattle.meaning.specs.declared.Listed.the-variants.{Rows}
 use Rattle.meaning.specs.Values.{Contents}
 use Rattle.meaning.specs.Sheets.{Sheet, tableAt}
 use Rattle.meaning.specs.Reading.{Read, found, refused, Row, readSheet, readSession, readRows}
 use Rattle.meaning.specs.Reading as r
-use Rattle.meaning.specs.Replies.{Asked, asks, refuses, need, formed, askedTable, askedRows, ListingReply}
+use Rattle.meaning.specs.Replies.{asks, need, askedTable, askedRows, ListingReply}
 use Rattle.meaning.proofs.ReadLaws.{read-split, need-true}
-use Rattle.sheet.specs.declared.Reading.{Reading}
-use Rattle.sheet.specs.declared.Outcome.the-variants.{Accepted, Refused}
-use Rattle.sheet.specs.Directory.{Found, Outcomes, SheetRead}
 use Rattle.rows.specs.Held.{SessionHeld, SessionRead, isFound}
 use Rattle.listing.specs.Ready.{admitted, askedOf, Lists}
 
@@ -99,10 +95,3 @@ unfolding readSheet
 sheet-short s sheet end e =
     let x = read-split (r.need (leb (length s) 16384) 1 s 0) _ sheet end e in
     leb-true (length s) 16384 (need-true (leb (length s) 16384) 1 s 0 (x .1) (x .0) (x .2))
-
--- what the sheet's reading answers, by its outcome
-pub reading-refused : (s : List ℕ) (r : Reading) {n : ℕ} → r .outcome ≡ Refused n → SheetRead s r → readSheet s ≡ refused n
-reading-refused s r e h = subst (Outcomes s (r .directory)) e h
-
-pub reading-found : (s : List ℕ) (r : Reading) → r .outcome ≡ Accepted → SheetRead s r → Found s (r .directory)
-reading-found s r e h = subst (Outcomes s (r .directory)) e h

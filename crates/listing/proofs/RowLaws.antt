@@ -1,33 +1,31 @@
 -- Listing row by row: which rows are written so far, and what the output holds of them.
-use Prim.Native.Nat.{ℕ, zero, suc, _+_, _-_, _*_, _/_, _%_, _<_, _≤_}
+use Prim.Native.Nat.{ℕ, _+_, _-_, _/_, _%_, _<_, _≤_}
 use native.Mathlib.Numerals.{add-one}
 use native.Mathlib.Decide.{decLt}
 use native.Mathlib.Omega.{arith}
 use mathlib.Core.Path.{_≡_, refl, sym, ap, subst, _∙_}
-use mathlib.Core.Bool.{Bool, true, false, cond}
-use mathlib.Core.List.{List, [], _∷_, _++_, map, append-assoc, append-nil}
-use lib.ListN.{length, getD, take, drop, set, length-append, length-take, length-drop}
-use lib.Seq.{paste, paste-zero, paste-suc, getD-drop, take-append-seam, drop-append-add, drop-drop, length-take-le}
-use lib.Dec.{ltb}
+use mathlib.Core.Bool.{Bool, true, false, cond, _&&_}
+use mathlib.Core.List.{List, [], _∷_, _++_, append-nil}
+use lib.ListN.{length, getD, take, drop, set, length-append, length-drop}
+use lib.Seq.{paste, paste-suc, getD-drop, take-append-seam, drop-append-add, drop-drop, length-take-le}
 use borrow.Author.Tests.{lt-ltb, le-ltb}
-use Rattle.lists.specs.Lists.{keep, each}
-use Rattle.meaning.specs.declared.Content.{Content}
+use Rattle.lists.specs.Lists.{every, each}
 use Rattle.meaning.specs.declared.Content.the-variants.{Null}
-use Rattle.meaning.specs.declared.Listed.{Listed}
 use Rattle.meaning.specs.declared.Listed.the-variants.{Rows}
 use Rattle.meaning.specs.Values.{Contents, with}
-use Rattle.meaning.specs.Sheets.{Sheet, kindOf, tableAt, admits}
-use Rattle.meaning.specs.Reading.{Read, found, refused, Row, row, rows, readRows}
+use Rattle.meaning.specs.Atoms.{policyMet}
+use Rattle.meaning.specs.Sheets.{Sheet, tableAt, permissive, restrictive, admits}
+use Rattle.meaning.specs.Reading.{found, refused, Row, row, rows, readRows}
 use Rattle.meaning.specs.Replies.{asks, rowBytes, over}
 use Rattle.meaning.proofs.ReadLaws.{found-same}
 use Rattle.rows.specs.declared.Ended.{Ended}
 use Rattle.rows.specs.declared.Ended.the-variants.{At, Lost}
 use Rattle.rows.specs.Held.{RowHeld, RowRead}
 use Rattle.rows.proofs.ListLaws.{rowAt, Rowing, rowing-starts, rowing-ends, rowing-lost, rowing-stuck, rowing-on, list-short, row-found, row-refused}
-use Rattle.admission.specs.Plan.{itemOf, planOf, runs}
-use Rattle.admission.proofs.PlanLaws.{runs-admits}
+use Rattle.admission.proofs.PlanLaws.{plan-admits}
 use Rattle.listing.specs.Ready.{admitted, Lists, Ready}
-use Rattle.listing.proofs.PlanLaws.{each-append, keep-append}
+use Rattle.lists.proofs.ListLaws.{each-append}
+use Rattle.listing.proofs.PlanLaws.{keep-append}
 
 -- a byte more is copied
 pub copy-on : (list out now : List ℕ) (a at i : ℕ) → now ≡ paste out at (drop a list) i → at + i < length out → a + i < length list → set now (at + i) (getD list (a + i) 0) ≡ paste out at (drop a list) (i + 1)
@@ -45,9 +43,9 @@ over-more bytes out list m l =
     (λ i. take-append-seam bytes (drop (length bytes) out) i ++ take m list ++ (drop-append-add bytes (drop (length bytes) out) m ∙ drop-drop m (length bytes) out ∙ ap (λ n. drop n out) (sym size)) i)
 
 -- what the variables hold of a row and a session is what the definitions hold of them
-module _ (s plan : List ℕ) (n there columns : ℕ) (kinds : List ℕ) (sheet : Sheet) (t command : ℕ) (key now : Contents) (small : columns ≤ 16) (g : Ready s plan n there columns kinds sheet t command key now)
+module _ (s words heads counts : List ℕ) (some all there columns : ℕ) (kinds : List ℕ) (sheet : Sheet) (t command : ℕ) (key now : Contents) (small : columns ≤ 16) (g : Ready s words heads counts some all there columns kinds sheet t command key now)
     (q : ℕ) (x after : Contents) (h : RowHeld columns q x now after) where
-  pub ready-on : Ready s plan n there columns kinds sheet t command key after
+  pub ready-on : Ready s words heads counts some all there columns kinds sheet t command key after
   ready-on = record { fields = g .fields; kind = g .kind; laid = g .laid; others = λ v l. h .others v l ∙ g .others v l }
 
   holds-row : (v : ℕ) → after v ≡ with x key v
@@ -63,8 +61,8 @@ module _ (s plan : List ℕ) (n there columns : ℕ) (kinds : List ℕ) (sheet :
           let m : 16 ≤ v = omega arith in
           h .others v l ∙ g .others v l ∙ ap (λ b. cond b Null (key (v - 16))) (le-ltb v 16 m) ∙ sym (ap (λ b. cond b (x v) (key (v - 16))) (le-ltb v 16 m))
 
-  pub row-admitted : {r : Bool} → r ≡ runs after (map (itemOf (kindOf sheet) s) (take n plan)) false false true → r ≡ admits sheet t command (with x key)
-  row-admitted e = e ∙ ap (λ l. runs after l false false true) (g .laid) ∙ runs-admits after sheet t command ∙ ap (admits sheet t command) (λ i v. holds-row v i)
+  pub row-admitted : {r : Bool} → r ≡ (policyMet after (each (λ cs. cs) (permissive sheet t command)) && every (policyMet after) (restrictive sheet t command)) → r ≡ admits sheet t command (with x key)
+  row-admitted e = plan-admits sheet t command after e ∙ ap (admits sheet t command) (λ i v. holds-row v i)
 
 -- the rows up to bit number p are done, and the admitted of them written
 pub record Listing (sheet : Sheet) (t command : ℕ) (key : Contents) (list : List ℕ) (p : ℕ) (before : List ℕ) (at count : ℕ) (out : List ℕ) : Type 0 where
@@ -104,12 +102,12 @@ module _ (sheet : Sheet) (t command : ℕ) (key : Contents) (list before : List 
           let w : found rs end ≡ refused (i .0) = sym whole-list ∙ i .1 in
           let no : _≡_ {A = ℕ} 0 1 = cc in omega arith
 
-      module _ {q : ℕ} (e : r ≡ At q) (far : p < q) (s plan : List ℕ) (n there : ℕ) (kinds : List ℕ) (small : columns ≤ 16) (ready : Ready s plan n there columns kinds sheet t command key now) where
+      module _ {q : ℕ} (e : r ≡ At q) (far : p < q) (s words heads counts : List ℕ) (some all there : ℕ) (kinds : List ℕ) (small : columns ≤ 16) (ready : Ready s words heads counts some all there columns kinds sheet t command key now) where
         x : (x : Contents) × (row sheet (tableAt sheet t) list p ≡ found x q) × RowHeld columns q x now after
         x = row-found columns sheet (tableAt sheet t) list p now after r read e
 
-        pub ready-next : Ready s plan n there columns kinds sheet t command key after
-        ready-next = ready-on s plan n there columns kinds sheet t command key now small ready q (x .0) after (x .2)
+        pub ready-next : Ready s words heads counts some all there columns kinds sheet t command key after
+        ready-next = ready-on s words heads counts some all there columns kinds sheet t command key now small ready q (x .0) after (x .2)
 
         next : Row
         next = rowAt list p q (x .0)
@@ -122,9 +120,9 @@ module _ (sheet : Sheet) (t command : ℕ) (key : Contents) (list before : List 
         unfolding next
         kept-next {b} y = keep-append (λ r. admits sheet t command (with (r .columns) key)) (g .done) (next ∷ []) ∙ ap (λ b. admitted sheet t command key (g .done) ++ cond b (next ∷ []) []) (sym y)
 
-        module _ {b : Bool} (ran : b ≡ runs after (map (itemOf (kindOf sheet) s) (take n plan)) false false true) where
+        module _ {b : Bool} (ran : b ≡ (policyMet after (each (λ cs. cs) (permissive sheet t command)) && every (policyMet after) (restrictive sheet t command))) where
           says : b ≡ admits sheet t command (with (x .0) key)
-          says = row-admitted s plan n there columns kinds sheet t command key now small ready q (x .0) after (x .2) ran
+          says = row-admitted s words heads counts some all there columns kinds sheet t command key now small ready q (x .0) after (x .2) ran
 
           pub listing-drops : b ≡ false → Listing sheet t command key list q before at count out
           listing-drops not =

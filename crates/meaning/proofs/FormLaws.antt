@@ -178,7 +178,7 @@ variable-reads facts =
     reads-as (λ v g. (ltb-true v 24 (g .1 .0), g .1 .1 .0)) (λ v g. let l : v < 24 = g .0 in (omega arith, (lt-ltb v 24 l, (g .1, refl)))) (λ v. append-nil (bits 5 v))
     (reads-then (λ v. v) (λ a v g h. h .1 .1) (reads-field 5) (λ v. reads-need (ltb v 24) 5 (lit≤ tt) (reads-need (there facts v) 6 (lit≤ tt) (reads-give v))))
 
-raw-raw : (k : Kind) (n : ℕ) → raw k (raw k n) ≡ n
+pub raw-raw : (k : Kind) (n : ℕ) → raw k (raw k n) ≡ n
 raw-raw token n = refl
 raw-raw boolean n = refl
 raw-raw integer n = go (ltb n (2 ^ 63)) refl (ltb n (2 ^ 64)) refl

@@ -8,6 +8,7 @@ use native.Mathlib.Numerals.{add-one}
 use lib.ListN.{length, take}
 use lib.Seq.{take-suc}
 use Rattle.lists.specs.Lists.{All, each, Each}
+use Rattle.lists.proofs.ListLaws.{each-more, each-append}
 use Rattle.lists.proofs.OrderLaws.{all-map}
 use Rattle.bits.specs.Bits.{bits}
 use Rattle.meaning.specs.Atoms.{Clause}
@@ -45,14 +46,6 @@ policy-written sheet p o bs s at ds n w = record {
       wrote-both o bs t (c ++ (x ++ y)) s at (wrote-both o (bs ++ t) c (x ++ y) s at (wrote-both o ((bs ++ t) ++ c) x y s at w));
 }
 
-each-more : {A B : Type 0} {R : A → B → Type 0} {xs : List A} {ys : List B} (x : A) (y : B) → R x y → Each R xs ys → Each R (xs ++ (x ∷ [])) (ys ++ (y ∷ []))
-each-more x y r Each.none = Each.one r Each.none
-each-more x y r (Each.one q e) = Each.one q (each-more x y r e)
-
-each-both : {A : Type 0} (f : A → List ℕ) (xs ys : List A) → each f (xs ++ ys) ≡ each f xs ++ each f ys
-each-both f [] ys = refl
-each-both f (x ∷ xs) ys = ap (λ t. f x ++ t) (each-both f xs ys) ∙ sym (append-assoc (f x) (each f xs) (each f ys))
-
 module _ (sheet : Sheet) (o bs : List ℕ) where
   pub no-policies : (s : List ℕ) (p : ℕ) → Wrote o bs s p → PoliciesWritten sheet 0 o bs s p
   no-policies s p w = record { normals = []; are-normal = Each.none; wrote = subst (λ (x : List ℕ). Wrote o x s p) (sym (append-nil bs)) w }
@@ -69,6 +62,6 @@ module _ (sheet : Sheet) (o bs : List ℕ) where
         are-normal = subst (λ (ps : List Policy). Each (NormalPolicy sheet) ps (done .normals ++ (one .normal ∷ []))) (sym e) (each-more (policyAt sheet n) (one .normal) (one .is-normal) (done .are-normal));
         wrote = subst (λ (x : List ℕ). Wrote o x t q)
             (append-assoc bs (each code (done .normals)) (code (one .normal))
-            ∙ ap (λ (x : List ℕ). bs ++ x) (ap (λ (x : List ℕ). each code (done .normals) ++ x) (sym (append-nil (code (one .normal)))) ∙ sym (each-both code (done .normals) (one .normal ∷ []))))
+            ∙ ap (λ (x : List ℕ). bs ++ x) (ap (λ (x : List ℕ). each code (done .normals) ++ x) (sym (append-nil (code (one .normal)))) ∙ sym (each-append code (done .normals) (one .normal ∷ []))))
             (one .wrote);
       }

@@ -1,5 +1,5 @@
 -- What an accepted sheet's directory tells of each policy, where a selector starts and ends, and the clauses taken one after another.
-use Prim.Native.Nat.{ℕ, zero, suc, _+_, _-_, _*_, _/_, _%_, _<_, _≤_}
+use Prim.Native.Nat.{ℕ, _+_, _-_, _*_, _/_, _%_, _<_, _≤_}
 use mathlib.Core.Path.{_≡_, refl, sym, ap, subst, _∙_}
 use mathlib.Core.Bool.{Bool, true, false, cond}
 use mathlib.Core.List.{List, [], _∷_, _++_}
@@ -7,11 +7,11 @@ use native.Mathlib.Omega.{arith}
 use native.Mathlib.Numerals.{add-one}
 use lib.ListN.{length, take, getD}
 use lib.Seq.{take-suc, take-all}
-use lib.Dec.{leb}
+use lib.Dec.{eqb, leb}
 use borrow.Author.Tests.{leb-true}
 use Rattle.bits.specs.Bits.{number, bits}
 use Rattle.meaning.specs.Atoms.{Clause}
-use Rattle.meaning.specs.Sheets.{Sheet, Selector, all, policyAt}
+use Rattle.meaning.specs.Sheets.{Policy, Sheet, Selector, all, policyAt}
 use Rattle.meaning.specs.Packed.{selectorBits}
 use Rattle.meaning.specs.Reading.{Read, found, refused, field, selector}
 use Rattle.meaning.specs.Allowed.{factsOf, PolicyAllowed}
@@ -22,14 +22,17 @@ use Rattle.meaning.proofs.FormLaws.{selector-reads}
 use Rattle.meaning.proofs.SheetLaws.{accepted-as}
 use Rattle.bits.specs.Fields.{placeAt}
 use Rattle.bits.specs.declared.Place.{Place}
+use Rattle.sheet.specs.declared.Facts.{Facts}
 use Rattle.sheet.specs.declared.Directory.{Directory}
 use Rattle.sheet.specs.declared.End.{End}
 use Rattle.sheet.specs.declared.End.the-variants.{At, Refused}
 use Rattle.sheet.specs.Ends.{Ends}
 use Rattle.sheet.proofs.TurnLaws.{ends-at, ends-refused}
-use Rattle.sheet.specs.Directory.{noPolicy, Described}
+use Rattle.sheet.specs.Directory.{policyCell, Described}
+use Rattle.sheet.proofs.EntryLaws.{numbered-policy}
 use Rattle.asked.specs.Asked.{Ranges}
-use Rattle.asked.proofs.UseLaws.{all-at, policy-used}
+use Rattle.lists.proofs.ListLaws.{all-at}
+use Rattle.asked.proofs.UseLaws.{policy-used}
 use Rattle.pruned.specs.Pruned.{Tidied}
 use Rattle.normal.specs.Written.{Readable}
 use Rattle.normal.proofs.KnownLaws.{kinds-known, standing}
@@ -71,26 +74,32 @@ place-byte pl q e = ap (λ (z : Place). z .byte) e
 pub place-bit : (pl : Place) (q : ℕ) → pl ≡ placeAt q → pl .bit ≡ q % 8
 place-bit pl q e = ap (λ (z : Place). z .bit) e
 
--- an element that is there is read whatever stands past the end
-pub same-past : {A : Type 0} (l : List A) (i : ℕ) (a b : A) → i < length l → getD l i a ≡ getD l i b
-same-past [] i a b h = absurd (omega arith)
-same-past (x ∷ l) zero a b h = refl
-same-past (x ∷ l) (suc i) a b h = same-past l i a b (omega arith)
-
 -- each policy of an accepted sheet
-pub readable : (s : List ℕ) (sheet : Sheet) (d : Directory) (top : List ℕ) → Described s sheet d → Accepted s sheet → length (d .facts .kinds) ≡ 24 → Ranges sheet top
-    → (i : ℕ) → i < length (sheet .policies) → Readable s sheet (d .facts) top (policyAt sheet i) (getD (d .policy) i noPolicy)
-readable s sheet d top h a n r i l =
+pub readable : (s : List ℕ) (sheet : Sheet) (d : Directory) (b top : List ℕ) → Described s sheet d b → Accepted s sheet → length (d .facts .kinds) ≡ 24 → Ranges sheet top
+    → (i : ℕ) → i < length (sheet .policies) → Readable s sheet (d .facts) top (policyAt sheet i) b i
+readable s sheet d b top h a n r i l =
     let acc = accepted-as s sheet a in
     let m : length s ≤ 16384 = subst (λ (z : ℕ). z ≤ 16384) (acc .as-long) (acc .allowed .short) in
     record {
       short = m;
       known = record { kinds-are = kinds-known sheet (d .facts .kinds) (h .facts .kinds) n (acc .allowed .keys .1); ranges = r };
       facts = h .facts;
+      there = numbered-policy h i l;
       at = h .policy i l;
       allowed = all-at (PolicyAllowed (factsOf sheet)) (record { restrictive = false; commands = 0; selector = all; clauses = [] }) (sheet .policies) i l (acc .allowed .each-policy);
       fits = policy-used sheet (acc .allowed) i l;
     }
+
+-- type, commands and selector of a policy, as its book tells them
+module _ {s : List ℕ} {sheet : Sheet} {f : Facts} {top : List ℕ} {x : Policy} {b : List ℕ} {k : ℕ} (R : Readable s sheet f top x b k) where
+  pub type-told : {r : Bool} → (k < 16 → r ≡ eqb (policyCell b k 0) 1) → r ≡ x .restrictive
+  type-told e = let z : 48 + k * 12 + 0 ≡ 48 + k * 12 = omega arith in e (R .there) ∙ ap (λ y. eqb (getD b y 0) 1) z ∙ R .at .restrictive
+
+  pub commands-told : {n : ℕ} → (k < 16 → n ≡ policyCell b k 1) → n ≡ x .commands
+  commands-told e = e (R .there) ∙ R .at .commands
+
+  pub selector-told : {n : ℕ} → (k < 16 → n ≡ policyCell b k 2) → (q : ℕ) × (selector 6 (factsOf sheet) s n ≡ found (x .selector) q)
+  selector-told e = let q = R .at .selector in (q .0, ap (selector 6 (factsOf sheet) s) (e (R .there)) ∙ q .1)
 
 -- one clause more is taken
 module _ (sheet : Sheet) (cs : List Clause) where

@@ -21,19 +21,8 @@ use Rattle.meaning.specs.Steps.{NormalPolicy, NormalSheet}
 use Rattle.meaning.specs.Replies.{asks, _>>=_, _>>_, need, whole, Replies, over, askedNormal, NormalFormReply}
 use Rattle.meaning.proofs.SheetLaws.{accepted-as, packed-length}
 use Rattle.meaning.proofs.RefusalLaws.{no-longer}
-use Rattle.sheet.specs.declared.Directory.{Directory}
-use Rattle.sheet.specs.declared.Outcome.{Outcome}
-use Rattle.sheet.specs.declared.Outcome.the-variants.{Accepted}
-use Rattle.sheet.specs.Directory.{Found, Outcomes}
 use Rattle.packing.specs.Wrote.{Wrote}
 use Rattle.normal.specs.Written.{PoliciesWritten}
-
--- what reading a sheet answers
-pub read-refused : (s : List ℕ) (d : Directory) (o : Outcome) (n : ℕ) → Outcomes s d o → o ≡ Outcome.Refused n → readSheet s ≡ refused n
-read-refused s d o n h e = subst (Outcomes s d) e h
-
-pub read-accepted : (s : List ℕ) (d : Directory) (o : Outcome) → Outcomes s d o → o ≡ Accepted → Found s d
-read-accepted s d o h e = subst (Outcomes s d) e h
 
 -- the bytes of p bits
 pub byte-count : (p : ℕ) → p / 8 + (p % 8 + 7) / 8 ≡ (p + 7) / 8

@@ -1,5 +1,5 @@
 -- The normal form of a sheet, being written policy by policy. (01, "Normal form")
-use Prim.Native.Nat.{ℕ, _≤_}
+use Prim.Native.Nat.{ℕ, _+_, _*_, _<_, _≤_}
 use mathlib.Core.List.{List, _++_}
 use lib.ListN.{length, take}
 use Rattle.lists.specs.Lists.{All, each, Each}
@@ -8,17 +8,17 @@ use Rattle.meaning.specs.Packed.{policyBits}
 use Rattle.meaning.specs.Steps.{NormalPolicy}
 use Rattle.meaning.specs.Allowed.{factsOf, PolicyAllowed}
 use Rattle.sheet.specs.declared.Facts.{Facts}
-use Rattle.sheet.specs.declared.Policy as dir
 use Rattle.sheet.specs.Directory.{FactsAre, PolicyAt}
 use Rattle.pruned.specs.Pruned.{Known, Fits}
 use Rattle.packing.specs.Wrote.{Wrote}
 
--- what is known of a policy x of the sheet that stands in s, which d describes: its fields are those of an accepted sheet
-pub record Readable (s : List ℕ) (sheet : Sheet) (f : Facts) (top : List ℕ) (x : Policy) (d : dir.Policy) : Type 0 where
+-- what is known of a policy x of the sheet that stands in s, as number k in the book: its fields are those of an accepted sheet
+pub record Readable (s : List ℕ) (sheet : Sheet) (f : Facts) (top : List ℕ) (x : Policy) (book : List ℕ) (k : ℕ) : Type 0 where
   pub short : length s ≤ 16384
   pub known : Known sheet (f .kinds) top
   pub facts : FactsAre sheet f
-  pub at : PolicyAt s (factsOf sheet) x d
+  pub there : k < 16
+  pub at : PolicyAt s (factsOf sheet) x book (48 + k * 12)
   pub allowed : PolicyAllowed (factsOf sheet) x
   pub fits : All (Fits sheet) (x .clauses)
 

@@ -2,7 +2,7 @@
 // length, or the refusal: 1 to 11 of the sheet, 14 where the output is shorter than the sheet. "Table facts, policy order, types, commands
 // and selectors stay. A policy left with no clause stays." On a refusal no output byte changes; output beyond the length is as found. The
 // form is never longer than its sheet (proved), so that 16 is never the answer, and what is written always has room. Stands on sheet (the
-// directory), pruned (the six steps) and packing (fields behind one another).
+// directory), asked (step 1), pruned (the other steps) and packing (fields behind one another).
 ghost use mathlib.Core.Path.{_≡_};
 ghost use Prim.Native.Nat.{ℕ, _+_, _*_, _≤_, _<_, min};
 ghost use mathlib.Core.Bool.{cond};
@@ -17,7 +17,7 @@ ghost use Rattle.meaning.specs.Reading.{found, selector};
 ghost use Rattle.meaning.specs.Allowed.{factsOf, TableAllowed, SheetAllowed};
 ghost use Rattle.meaning.specs.Replies.{NormalFormReply};
 ghost use Rattle.meaning.specs.Demands.{Accepted};
-ghost use Rattle.sheet.specs.Directory.{tableOf, noTable, FactsAre, PolicyAt, Described};
+ghost use Rattle.sheet.specs.Directory.{tableOf, tableIn, FactsAre, PolicyAt, Described};
 ghost use Rattle.steps.specs.Lists.{kindBy};
 ghost use Rattle.pruned.specs.Pruned.{Known, Fits, clausesOf, chosen, Tidied};
 ghost use Rattle.packing.specs.Wrote.{Wrote, AllInFive};
@@ -29,7 +29,6 @@ use sheet::Directory;
 use sheet::End;
 use sheet::Facts;
 use sheet::Outcome;
-use sheet::Policy;
 use sheet::Table;
 use steps::Values;
 
@@ -37,21 +36,20 @@ use steps::Values;
 fn write_table(out: &mut [u8], p: usize, t: Table) -> usize
     ensures { λ r. ⌜ ((o bs : List ℕ) (c : ℕ) → Wrote o bs (now (out .entry)) p → TableAllowed c (tableOf t) → Wrote o (bs ++ tableBits (tableOf t)) (now (out .exit)) r) ⌝ }
 {
-    let q = packing::write(out, p, 6, t.schema);
-    let u = packing::write(out, q, 8, t.tags);
-    packing::write(out, u, 16, t.columns)
+    let q = packing::write(out, p, 6, t.schema as u64);
+    let u = packing::write(out, q, 8, t.tags as u64);
+    packing::write(out, u, 16, t.columns as u64)
 }
 
 // The first n tables.
-fn write_tables(out: &mut [u8], p: usize, d: Directory, n: usize) -> usize
+fn write_tables(out: &mut [u8], p: usize, book: &[u32], n: usize) -> usize
     requires { ⌜ n ≤ 16 ⌝ }
-    ensures { λ r. ⌜ ((o bs : List ℕ) (c : ℕ) (ts : List m.Table) → Wrote o bs (now (out .entry)) p → length ts ≡ n → ((i : ℕ) → i < n → tableOf (getD (d .table) i noTable) ≡ getD ts i (tableOf noTable)) → All (TableAllowed c) ts → Wrote o (bs ++ each tableBits ts) (now (out .exit)) r) ⌝ }
+    ensures { λ r. ⌜ ((o bs : List ℕ) (c : ℕ) (ts : List m.Table) → Wrote o bs (now (out .entry)) p → length ts ≡ n → ((i : ℕ) → i < n → tableIn (now (book .entry)) i ≡ getD ts i (record { schema = 0; tags = 0; columns = 0 })) → All (TableAllowed c) ts → Wrote o (bs ++ each tableBits ts) (now (out .exit)) r) ⌝ }
 {
     let mut q = p;
     let mut i = 0;
     while i < n {
-        let t = d.table[i];
-        q = write_table(out, q, t);
+        q = write_table(out, q, sheet::entries::table_of(book, i));
         i += 1;
     }
     q
@@ -79,15 +77,15 @@ fn write_counts(out: &mut [u8], f: Facts, policies: u64) -> usize
 }
 
 // Everything before the policies.
-fn write_facts(out: &mut [u8], d: Directory) -> usize
-    ensures { λ r. ⌜ ((sheet : Sheet) (s o : List ℕ) → Described s sheet d → SheetAllowed sheet → o ≡ now (out .entry) → Wrote o (countBits sheet ++ factBits sheet) (now (out .exit)) r) ⌝ }
+fn write_facts(out: &mut [u8], d: Directory, book: &[u32]) -> usize
+    ensures { λ r. ⌜ ((sheet : Sheet) (s o : List ℕ) → Described s sheet d (now (book .entry)) → SheetAllowed sheet → o ≡ now (out .entry) → Wrote o (countBits sheet ++ factBits sheet) (now (out .exit)) r) ⌝ }
 {
     let f = d.facts;
     let kinds = f.kinds;
     let a = write_counts(out, f, d.policies);
     let b = packing::write_kinds(out, a, kinds, 0, at_most(f.columns, 16));
     let c = packing::write_kinds(out, b, kinds, 16, at_most(f.keys, 8));
-    write_tables(out, c, d, at_most(f.tables, 16))
+    write_tables(out, c, book, at_most(f.tables, 16))
 }
 
 // The bit number after the selector at bit number p.
@@ -124,18 +122,24 @@ fn selector_end(s: &[u8], p: usize, f: Facts) -> usize
     q.byte * 8 + q.bit
 }
 
-// Steps 1 to 5 of a policy's clauses.
-fn gather(s: &[u8], policy: Policy, f: Facts, top: [u64; 32]) -> Clauses
-    ensures { λ r. ⌜ (r .count ≤ 8) × ((sheet : Sheet) (p : m.Policy) → Known sheet (f .kinds) top → FactsAre sheet f → PolicyAt (now (s .entry)) (factsOf sheet) p policy → length (p .clauses) ≤ 8 → All (Fits sheet) (p .clauses) → Tidied sheet (p .clauses) (clausesOf r)) ⌝ }
+// Steps 1 to 5 of a policy's clauses. They are gathered here, in place: a call that took and gave them would copy them all.
+fn gather(s: &[u8], book: &[u32], k: usize, f: Facts, top: [u64; 32]) -> Clauses
+    ensures { λ r. ⌜ (r .count ≤ 8) × ((sheet : Sheet) (p : m.Policy) → Known sheet (f .kinds) top → FactsAre sheet f → k < 16 → PolicyAt (now (s .entry)) (factsOf sheet) p (now (book .entry)) (48 + k * 12) → All (Fits sheet) (p .clauses) → Tidied sheet (p .clauses) (clausesOf r)) ⌝ }
 {
-    let n = if_less(policy.count, 8);
+    let n = if_less(sheet::entries::count_of(book, k), 8);
     let kinds = f.kinds;
     let mut cs = pruned::none();
     let mut i = 0;
     while i < n {
-        let at = policy.clauses[i];
-        cs = pruned::take_clause(cs, sheet::clause_at(s, at, f), kinds, top);
+        let c = sheet::clause_at(s, sheet::entries::start_of(book, k, i), f);
         i += 1;
+        // "Drop each clause that no row and session meets."
+        if asked::satisfiable(c, top) {
+            let d = pruned::normal_clause(c, kinds, top);
+            let m = cs.count;
+            cs.clauses[m] = d;
+            cs.count = m + 1;
+        }
     }
     cs
 }
@@ -174,25 +178,26 @@ fn write_policy(
     out: &mut [u8],
     p: usize,
     s: &[u8],
-    policy: Policy,
+    book: &[u32],
+    k: usize,
     f: Facts,
     top: [u64; 32],
 ) -> usize
-    ensures { λ r. ⌜ ((sheet : Sheet) (x : m.Policy) (o bs : List ℕ) → Readable (now (s .entry)) sheet f top x policy → Wrote o bs (now (out .entry)) p → PolicyWritten sheet x o bs (now (out .exit)) r) ⌝ }
+    ensures { λ r. ⌜ ((sheet : Sheet) (x : m.Policy) (o bs : List ℕ) → Readable (now (s .entry)) sheet f top x (now (book .entry)) k → Wrote o bs (now (out .entry)) p → PolicyWritten sheet x o bs (now (out .exit)) r) ⌝ }
 {
-    let from = policy.selector;
+    let from = sheet::entries::selector_of(book, k);
     let kinds = f.kinds;
-    let a = packing::write(out, p, 1, type_of(policy.restrictive));
-    let b = packing::write(out, a, 4, policy.commands);
+    let a = packing::write(out, p, 1, type_of(sheet::entries::restrictive_of(book, k)));
+    let b = packing::write(out, a, 4, sheet::entries::commands_of(book, k));
     let c = packing::copy(out, b, s, from, selector_end(s, from, f));
-    let cs = gather(s, policy, f, top);
+    let cs = gather(s, book, k, f, top);
     let order = pruned::choose(cs, kinds, top);
     write_chosen(out, c, cs, order, kinds)
 }
 
 // The policies, in their order.
-fn write_policies(out: &mut [u8], p: usize, s: &[u8], d: Directory) -> usize
-    ensures { λ r. ⌜ ((sheet : Sheet) (o bs : List ℕ) → Described (now (s .entry)) sheet d → Accepted (now (s .entry)) sheet → Wrote o bs (now (out .entry)) p → PoliciesWritten sheet (length (sheet .policies)) o bs (now (out .exit)) r) ⌝ }
+fn write_policies(out: &mut [u8], p: usize, s: &[u8], d: Directory, book: &[u32]) -> usize
+    ensures { λ r. ⌜ ((sheet : Sheet) (o bs : List ℕ) → Described (now (s .entry)) sheet d (now (book .entry)) → Accepted (now (s .entry)) sheet → Wrote o bs (now (out .entry)) p → PoliciesWritten sheet (length (sheet .policies)) o bs (now (out .exit)) r) ⌝ }
 {
     let f = d.facts;
     let kinds = f.kinds;
@@ -201,8 +206,7 @@ fn write_policies(out: &mut [u8], p: usize, s: &[u8], d: Directory) -> usize
     let mut q = p;
     let mut i = 0;
     while i < n {
-        let policy = d.policy[i];
-        q = write_policy(out, q, s, policy, f, top);
+        q = write_policy(out, q, s, book, i, f, top);
         i += 1;
     }
     q
@@ -212,7 +216,8 @@ fn write_policies(out: &mut [u8], p: usize, s: &[u8], d: Directory) -> usize
 pub fn normal_form(sheet: &[u8], out: &mut [u8]) -> Written
     ensures { λ r. ⌜ NormalFormReply (now (sheet .entry)) (now (out .entry)) r (now (out .exit)) ⌝ }
 {
-    let reading = sheet::read_sheet(sheet);
+    let mut book = [0u32; 240];
+    let reading = sheet::read_sheet(sheet, &mut book);
     let outcome = reading.outcome;
     let d = reading.directory;
     if let Outcome::Refused(n) = outcome {
@@ -221,7 +226,7 @@ pub fn normal_form(sheet: &[u8], out: &mut [u8]) -> Written
     if out.len() < sheet.len() {
         return Written::Refused(14);
     }
-    let a = write_facts(out, d);
-    let b = write_policies(out, a, sheet, d);
+    let a = write_facts(out, d, &book);
+    let b = write_policies(out, a, sheet, d, &book);
     Written::Length(b / 8 + (b % 8 + 7) / 8)
 }

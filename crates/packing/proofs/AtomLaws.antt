@@ -39,12 +39,3 @@ atom-written o bs s p kinds a op k e f w =
     wrote-as o bs (v ++ (bits 4 op ++ x)) (atomBits (kindBy kinds) (atomOf a)) s p
     (ap (λ (n : ℕ). v ++ (bits 4 n ++ x)) (e ∙ sym (number-is a)) ∙ ap (λ (n : ℕ). v ++ (bits 4 (operatorNumber (atomOf a .operator)) ++ operandBits (kindFrom n) (atomOf a .operator))) f)
     (wrote-both o bs v (bits 4 op ++ x) s p (wrote-both o (bs ++ v) (bits 4 op) x s p w))
-
-module _ {A : Type 0} (P : A → Type 0) where
-  all-drop : (i : ℕ) (xs : List A) → All P xs → All P (drop i xs)
-  all-drop zero xs h = h
-  all-drop (suc i) [] h = h
-  all-drop (suc i) (x ∷ xs) h = all-drop i xs (h .1)
-
-  pub all-here : (xs : List A) {more : List A} {x : A} (i : ℕ) → drop i xs ≡ x ∷ more → All P xs → P x
-  all-here xs {more} {x} i at h = let g : All P (x ∷ more) = subst (All P) at (all-drop i xs h) in g .0

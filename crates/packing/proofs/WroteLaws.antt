@@ -6,6 +6,7 @@ use native.Mathlib.Omega.{arith}
 use lib.ListN.{length, take, length-append}
 use lib.Seq.{take-all}
 use Rattle.lists.specs.Lists.{each}
+use Rattle.lists.proofs.ListLaws.{each-append}
 use Rattle.bits.specs.Bits.{number, bits}
 use Rattle.bits.specs.Put.{putField}
 use Rattle.bits.proofs.BitLaws.{bits-length}
@@ -43,10 +44,6 @@ module _ (o bs : List ℕ) where
   pub wrote-none : (s : List ℕ) (p : ℕ) → Wrote o bs s p → Wrote o (bs ++ []) s p
   wrote-none s p w = subst (λ (x : List ℕ). Wrote o x s p) (sym (append-nil bs)) w
 
-each-both : {A : Type 0} (f : A → List ℕ) (xs ys : List A) → each f (xs ++ ys) ≡ each f xs ++ each f ys
-each-both f [] ys = refl
-each-both f (x ∷ xs) ys = ap (λ t. f x ++ t) (each-both f xs ys) ∙ sym (append-assoc (f x) (each f xs) (each f ys))
-
 -- a loop over a list: none of them yet, one more, all
 module _ {A : Type 0} (o bs : List ℕ) (code : A → List ℕ) (l : List A) (s : List ℕ) (p : ℕ) where
   pub wrote-starts : Wrote o bs s p → Wrote o (bs ++ each code (take 0 l)) s p
@@ -55,7 +52,7 @@ module _ {A : Type 0} (o bs : List ℕ) (code : A → List ℕ) (l : List A) (s 
   pub wrote-more : (i : ℕ) (x : A) → take (i + 1) l ≡ take i l ++ (x ∷ []) → Wrote o ((bs ++ each code (take i l)) ++ code x) s p → Wrote o (bs ++ each code (take (i + 1) l)) s p
   wrote-more i x e w =
       wrote-as o bs (each code (take i l) ++ code x) (each code (take (i + 1) l)) s p
-      (sym (ap (each code) e ∙ each-both code (take i l) (x ∷ []) ∙ ap (λ t. each code (take i l) ++ t) (append-nil (code x))))
+      (sym (ap (each code) e ∙ each-append code (take i l) (x ∷ []) ∙ ap (λ t. each code (take i l) ++ t) (append-nil (code x))))
       (wrote-both o bs (each code (take i l)) (code x) s p w)
 
   pub wrote-all : (i : ℕ) → length l ≤ i → Wrote o (bs ++ each code (take i l)) s p → Wrote o (bs ++ each code l) s p

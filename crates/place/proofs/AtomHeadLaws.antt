@@ -12,7 +12,8 @@ use Rattle.bits.specs.declared.Place.{Place}
 use Rattle.meaning.specs.Values.{kindNumber, integer}
 use Rattle.meaning.specs.Sheets.{Sheet, kindOf}
 use Rattle.meaning.specs.Views.{KindsAre}
-use Rattle.meaning.specs.Atoms.{Operator, Atom}
+use Rattle.meaning.specs.Atoms.{Atom}
+use Rattle.meaning.specs.Steps.{on}
 use Rattle.meaning.specs.Reading.{Read, found, refused, onRead, need, variable, operand, atom}
 use Rattle.meaning.specs.Reading as reading
 use Rattle.values.proofs.ReadLaws.{field-is}
@@ -24,7 +25,7 @@ use Rattle.place.specs.declared.AtomHead.the-variants as head
 use Rattle.place.proofs.HeadLaws.{on-moved}
 
 -- a variable's kind by its number
-kind-is : (facts : Sheet) (kinds : List ℕ) → KindsAre facts kinds → (v : ℕ) → v < 24 → getD kinds v 0 ≡ kindNumber (kindOf facts v)
+pub kind-is : (facts : Sheet) (kinds : List ℕ) → KindsAre facts kinds → (v : ℕ) → v < 24 → getD kinds v 0 ≡ kindNumber (kindOf facts v)
 kind-is facts kinds are v h = go (ltb v 16) refl
   where
     go : (b : Bool) → ltb v 16 ≡ b → getD kinds v 0 ≡ kindNumber (cond b (getD (facts .columns) v integer) (getD (facts .keys) (v - 16) integer))
@@ -87,20 +88,17 @@ module _ (facts : Sheet) (s : List ℕ) where
     atom-head-read at f r here g e =
         atom-head-is r (e ∙ ap (λ z. judgedOf z columns keys kinds) (g ∙ ap (λ (a : Place). atomFieldsAt s (a .byte) (a .bit)) here))
 
-abbrev pub atomOn : ℕ → Operator → Atom
-atomOn v x = record { variable = v; operator = x }
-
 abbrev pub headOn : ℕ → ℕ → Head
 headOn v o = record { variable = v; operator = o }
 
 -- an atom is its head and what follows it
 pub atom-by-head : (facts : Sheet) (s : List ℕ) (p : ℕ)
-    → atom facts s p ≡ onRead (atomHead facts s p) (λ h q. onRead (operand facts (h .variable) (h .operator) s q) (λ x r. found (atomOn (h .variable) x) r))
+    → atom facts s p ≡ onRead (atomHead facts s p) (λ h q. onRead (operand facts (h .variable) (h .operator) s q) (λ x r. found (on (h .variable) x) r))
 unfolding atom atomHead
 atom-by-head facts s p = from (variable facts s p)
   where
     rest : ℕ → ℕ → ℕ → Read Atom
-    rest v o q = onRead (operand facts v o s q) (λ x r. found (atomOn v x) r)
+    rest v o q = onRead (operand facts v o s q) (λ x r. found (on v x) r)
 
     judged : (v o q : ℕ) (a b : Bool) → onRead (need a 5 s q) (λ x q. onRead (need b 7 s q) (λ x q. rest v o q))
         ≡ onRead (onRead (need a 5 s q) (λ x q. onRead (need b 7 s q) (λ x q. found (headOn v o) q))) (λ h q. rest (h .variable) (h .operator) q)
@@ -146,7 +144,7 @@ module _ (facts : Sheet) (s : List ℕ) (p : ℕ) where
   pub atom-lost : {n : ℕ} → atomHead facts s p ≡ refused n → atom facts s p ≡ refused n
   atom-lost e = atom-by-head facts s p ∙ rw e
 
-  pub atom-goes-on : {v o q : ℕ} → atomHead facts s p ≡ found (headOn v o) q → atom facts s p ≡ onRead (operand facts v o s q) (λ x r. found (atomOn v x) r)
+  pub atom-goes-on : {v o q : ℕ} → atomHead facts s p ≡ found (headOn v o) q → atom facts s p ≡ onRead (operand facts v o s q) (λ x r. found (on v x) r)
   atom-goes-on e = atom-by-head facts s p ∙ rw e
 
 -- a variable below 24, and an operator below 9

@@ -131,7 +131,7 @@ module _ {M : Type 1} (𝓤 : URA M) (H : Heap 𝓤) (A : Atoms 𝓤) (W : Given
   abbrev found : Step
   found = work (now s) h n
 
-  -- what `step_at` is passed, what it asks, and what is known of its result
+  -- what g is passed, what it asks, and what is known of its result
   abbrev to : Work 𝓤 H A work .Ghost
   to = (((κ, tt), (q, tt), tt, (s, (h, (n, tt))), (v ∷ [], (P′.lowered h ∷ [], (vint w64 n ∷ [], tt)))), tt)
 

@@ -10,6 +10,7 @@ use lib.ListN.{length, take}
 use lib.Dec.{leb}
 use borrow.Author.Tests.{le-leb, lt-leb}
 use Rattle.lists.specs.Lists.{numbersFrom, each, Each}
+use Rattle.lists.proofs.ListLaws.{each-more}
 use Rattle.meaning.specs.declared.Life.{Life}
 use Rattle.meaning.specs.declared.Isolation.{Isolation}
 use Rattle.meaning.specs.declared.BranchCount.{BranchCount}
@@ -24,9 +25,7 @@ use Rattle.text.specs.Wrote.{Wrote}
 use Rattle.text.proofs.WroteLaws.{wrote-none, wrote-then, wrote-as}
 use Rattle.meaning.proofs.SheetLaws.{accepted-as}
 use Rattle.sheet.specs.declared.Directory.{Directory}
-use Rattle.sheet.specs.declared.Reading.{Reading}
-use Rattle.sheet.specs.declared.Outcome.the-variants as outcome
-use Rattle.sheet.specs.Directory.{Found, Outcomes, SheetRead}
+use Rattle.sheet.specs.Directory.{Found}
 use Rattle.report.specs.Texts.{verdictsText, letterOf, headText, openingText, refusalText}
 use Rattle.report.specs.Lines.{Writes, IsRest, Asked, FirstLines}
 use Rattle.report.proofs.KnownLaws.{count-known, life-known, isolation-known}
@@ -83,10 +82,6 @@ numbers-more : (i n : ℕ) → numbersFrom i (suc n) ≡ numbersFrom i n ++ ((i 
 numbers-more i zero = ap (λ x. x ∷ []) (sym (add-zero i))
 numbers-more i (suc n) = ap (λ x. i ∷ x) (numbers-more (i + 1) n ∙ ap (λ x. numbersFrom (i + 1) n ++ (x ∷ [])) (let o : i + 1 + n ≡ i + suc n = omega arith in o))
 
-each-more : {A B : Type 0} {R : A → B → Type 0} {xs : List A} {ys : List B} {x : A} {y : B} → Each R xs ys → R x y → Each R (xs ++ (x ∷ [])) (ys ++ (y ∷ []))
-each-more Each.none r = Each.one r Each.none
-each-more (Each.one q e) r = Each.one q (each-more e r)
-
 joined : (ls : List (List ℕ)) (l : List ℕ) → each (λ x. x) (ls ++ (l ∷ [])) ≡ each (λ x. x) ls ++ l
 joined [] l = append-nil l
 joined (x ∷ ls) l = ap (λ y. x ++ y) (joined ls l) ∙ sym (append-assoc x (each (λ y. y) ls) l)
@@ -101,7 +96,7 @@ lines-more sheet n text line f l =
       each-line =
           subst (λ ks. Each (λ k x. Line sheet (k / 4) (k % 4) x) ks (f .lines ++ (line ∷ [])))
           (sym (ap (numbersFrom 0) (add-one n) ∙ numbers-more 0 n ∙ ap (λ x. numbersFrom 0 n ++ (x ∷ [])) (let o : 0 + n ≡ n = omega arith in o)))
-          (each-more (f .each-line) l);
+          (each-more _ _ l (f .each-line));
       text-is = ap (λ x. x ++ line) (f .text-is) ∙ sym (joined (f .lines) line);
     }
 
@@ -117,10 +112,10 @@ pub out-refused : (s : List ℕ) (n : ℕ) {b a : List ℕ} {r : ℕ} → readSh
 unfolding ReadOut
 out-refused s n {b} {a} {r} e w = subst (λ x. Printed x (take r a)) (sym e) (w .front)
 
-pub out-told : (s : List ℕ) (d : Directory) (tables : ℕ) {b m a : List ℕ} {k r : ℕ} → Found s d → (d .facts .tables ≤ 16 → tables ≡ d .facts .tables) →
+pub out-told : (s : List ℕ) (d : Directory) (tables : ℕ) {book b m a : List ℕ} {k r : ℕ} → Found s d book → (d .facts .tables ≤ 16 → tables ≡ d .facts .tables) →
     Wrote b 0 (openingText (d .facts .tables) (d .policies)) m k → ((x : Sheet) → Accepted s x → length (x .tables) ≡ tables → Writes (FirstLines x (tables * 4)) m k a r) → ReadOut s (take r a)
 unfolding ReadOut
-out-told s d tables {b} {m} {a} {k} {r} f same w ls =
+out-told s d tables {book} {b} {m} {a} {k} {r} f same w ls =
     let x = f .sheet in
     let acc : Accepted s x = (f .end, f .read) in
     let T = f .described .facts .tables in
@@ -135,10 +130,3 @@ out-told s d tables {b} {m} {a} {k} {r} f same w ls =
     ∙ simp append-assoc in
     subst (λ z. Printed z (take r a)) (sym (f .read))
     (record { lines = l .says .lines; each-line = subst (λ n. Each (λ i y. Line x (i / 4) (i % 4) y) (numbersFrom 0 n) (l .says .lines)) t (l .says .each-line); text-is = all .front ∙ parts })
-
--- what reading answered, by its outcome
-pub outcome-refused : (s : List ℕ) (r : Reading) (n : ℕ) → SheetRead s r → r .outcome ≡ outcome.Refused n → readSheet s ≡ refused n
-outcome-refused s r n h e = subst (Outcomes s (r .directory)) e h
-
-pub outcome-accepted : (s : List ℕ) (r : Reading) → SheetRead s r → r .outcome ≡ outcome.Accepted → Found s (r .directory)
-outcome-accepted s r h e = subst (Outcomes s (r .directory)) e h

@@ -181,7 +181,8 @@ pub fn read_out(sheet: &[u8], out: &mut [u8]) -> usize
     ensures text { λ r. ⌜ ReadOut (now (sheet .entry)) (take r (now (out .exit))) ⌝ }
     ensures counts { λ r. ⌜ Counts r (now (out .exit)) ⌝ }
 {
-    let reading = read_sheet(sheet);
+    let mut book = [0u32; 240];
+    let reading = read_sheet(sheet, &mut book);
     let outcome = reading.outcome;
     let directory = reading.directory;
     let facts = directory.facts;

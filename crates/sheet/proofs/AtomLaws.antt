@@ -1,24 +1,15 @@
 -- Lists, operands and atoms, by what is read for them.
 use Prim.Native.Nat.{ℕ, zero, suc, _<_, _≤_}
 use native.Mathlib.Omega.{arith}
-use mathlib.Core.Path.{_≡_, refl, ap, subst, _∙_}
-use mathlib.Core.Bool.{Bool, true, false, cond, _&&_}
+use mathlib.Core.Path.{_≡_, refl, _∙_}
 use mathlib.Core.List.{List, []}
-use lib.Dec.{ltb, leb, eqb}
-use borrow.Author.Tests.{ltb-true}
-use Rattle.meaning.specs.Values.{Kind, kindNumber}
-use Rattle.meaning.specs.Atoms.{Atom}
+use Rattle.meaning.specs.Values.{Kind}
 use Rattle.meaning.specs.Sheets.{Sheet, kindOf}
-use Rattle.meaning.specs.Steps.{on}
 use Rattle.meaning.specs.Views.{operatorOf}
-use Rattle.meaning.specs.Reading.{Read, found, refused, onRead, need, field, count, times, value, values, variable, mate, operand, atom, clause}
-use Rattle.meaning.proofs.ReadLaws.{read-split, need-true, found-same}
-use Rattle.bits.specs.declared.Field.{Field}
-use Rattle.values.specs.Reads.{fieldOf}
+use Rattle.meaning.specs.Reading.{found, refused, onRead, count, times, value, values, mate, operand, atom, clause}
 use Rattle.meaning.specs.Allowed.{factsOf}
 use Rattle.sheet.specs.declared.Facts.{Facts}
 use Rattle.sheet.specs.Directory.{FactsAre}
-use Rattle.sheet.specs.Ends.{operator}
 
 -- a list: its count, and then so many values
 module _ (k : Kind) (s : List ℕ) (p : ℕ) where
@@ -87,53 +78,6 @@ module _ (facts : Sheet) (v o : ℕ) (s : List ℕ) (p : ℕ) where
 
   pub bound-found : {n q : ℕ} (u : ℕ) (ns : List ℕ) → 3 ≤ o → o < 7 → value (kindOf facts v) s p ≡ found n q → operand facts v o s p ≡ found (operatorOf o u n ns) q
   bound-found u ns l h e = operand-bound u ns l h ∙ rw e
-
--- an operator on a kind by another name
-pub operator-on : {f : Field} {k : ℕ} (n : ℕ) (s : List ℕ) (p : ℕ) → f ≡ fieldOf (operator k s p) → k ≡ n → f ≡ fieldOf (operator n s p)
-operator-on n s p e h = e ∙ ap (λ x. fieldOf (operator x s p)) h
-
--- an operator that is found is below 9
-pub operator-small : (k : ℕ) (s : List ℕ) (p o q : ℕ) → operator k s p ≡ found o q → o < 9
-unfolding operator
-operator-small k s p o q e =
-    let x = read-split (field 4 s p) _ o q e in
-    let a = read-split (need (ltb (x .0) 9) 5 s (x .1)) _ o q (x .3) in
-    let b = read-split (need (cond (leb 3 (x .0) && leb (x .0) 6) (eqb k 0) true) 7 s (a .1)) _ o q (a .3) in
-    subst (λ n. n < 9) (found-same (b .3)) (ltb-true (x .0) 9 (need-true (ltb (x .0) 9) 5 s (x .1) (a .1) (a .0) (a .2)))
-
--- an atom: its variable, its operator, and what follows
-module _ (facts : Sheet) (s : List ℕ) (p : ℕ) where
-  pub atom-lost : {n : ℕ} → variable facts s p ≡ refused n → atom facts s p ≡ refused n
-  unfolding atom
-  atom-lost e = simp e
-
-  -- what follows the operator's field
-  abbrev rest : ℕ → ℕ → ℕ → Read Atom
-  rest v o q = onRead (operand facts v o s q) (λ x r. found (on v x) r)
-
-  module _ {v q : ℕ} (e : variable facts s p ≡ found v q) where
-    -- the operator's field and its two tests, cut out
-    cut : atom facts s p ≡ onRead (operator (kindNumber (kindOf facts v)) s q) (rest v)
-    unfolding atom operator
-    cut = rw e (go (field 4 s q))
-      where
-        tests : (a b : Bool) (o r : ℕ) →
-            onRead (need a 5 s r) (λ x t. onRead (need b 7 s t) (λ y u. rest v o u)) ≡ onRead (onRead (need a 5 s r) (λ x t. onRead (need b 7 s t) (λ y u. found o u))) (rest v)
-        tests true true o r = refl
-        tests true false o r = refl
-        tests false b o r = refl
-
-        go : (t : Read ℕ) →
-            onRead t (λ o r. onRead (need (ltb o 9) 5 s r) (λ x w. onRead (need (cond (leb 3 o && leb o 6) (eqb (kindNumber (kindOf facts v)) 0) true) 7 s w) (λ y u. rest v o u)))
-            ≡ onRead (onRead t (λ o r. onRead (need (ltb o 9) 5 s r) (λ x w. onRead (need (cond (leb 3 o && leb o 6) (eqb (kindNumber (kindOf facts v)) 0) true) 7 s w) (λ y u. found o u)))) (rest v)
-        go (found o r) = tests (ltb o 9) (cond (leb 3 o && leb o 6) (eqb (kindNumber (kindOf facts v)) 0) true) o r
-        go (refused n) = refl
-
-    pub atom-unfit : {n : ℕ} → operator (kindNumber (kindOf facts v)) s q ≡ refused n → atom facts s p ≡ refused n
-    atom-unfit h = cut ∙ simp h
-
-    pub atom-of : {o r : ℕ} → operator (kindNumber (kindOf facts v)) s q ≡ found o r → atom facts s p ≡ onRead (operand facts v o s r) (λ x t. found (on v x) t)
-    atom-of h = cut ∙ simp h
 
 -- a clause: its count, and then so many atoms
 module _ (facts : Sheet) (s : List ℕ) (p : ℕ) where

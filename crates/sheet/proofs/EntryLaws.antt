@@ -1,40 +1,70 @@
--- What a directory says of the sheet that it describes: a table, a policy, and whether a policy counts.
-use Prim.Native.Nat.{ℕ, zero, suc, _<_, _≤_}
+-- What a directory and its book say of the sheet that they describe: a table's facts, a policy's fields, and whether a policy counts.
+use Prim.Native.Nat.{ℕ, _+_, _*_, _<_}
 use native.Mathlib.Omega.{arith}
 use mathlib.Core.Path.{_≡_, refl, sym, ap, _∙_}
-use mathlib.Core.Bool.{Bool, _&&_}
-use mathlib.Core.List.{List, [], _∷_, map}
-use lib.ListN.{length, getD, length-map}
+use mathlib.Core.Bool.{Bool, true, false, _&&_}
+use mathlib.Core.List.{List, []}
+use lib.ListN.{length, getD}
+use lib.Dec.{eqb}
 use Rattle.meaning.specs.Sheets.{Sheet, member, matches, tableAt, policyAt}
 use Rattle.meaning.specs.Sheets as sheets
-use Rattle.meaning.specs.Reading.{selector}
+use Rattle.meaning.specs.Reading.{found, selector, clause}
 use Rattle.meaning.specs.Allowed.{factsOf}
 use Rattle.sheet.specs.declared.End.{End}
 use Rattle.sheet.specs.declared.Table.{Table}
-use Rattle.sheet.specs.declared.Policy.{Policy}
 use Rattle.sheet.specs.declared.Directory.{Directory}
-use Rattle.sheet.specs.Directory.{tableOf, noTable, noPolicy, FactsAre, PolicyAt, Described}
+use Rattle.sheet.specs.Directory.{tableOf, tableIn, policyCell, PolicyAt, Described}
 use Rattle.sheet.specs.Ends.{Ends}
 use Rattle.sheet.proofs.TurnLaws.{ends-item}
 
--- an element that is there does not depend on what stands past the end
-pub getD-any : {A : Type 0} (l : List A) (i : ℕ) (d e : A) → i < length l → getD l i d ≡ getD l i e
-getD-any [] i d e h = absurd (omega arith)
-getD-any (x ∷ l) zero d e h = refl
-getD-any (x ∷ l) (suc i) d e h = getD-any l i d e (omega arith)
+-- where a policy's clause begins
+pub start-so : {s : List ℕ} {facts : Sheet} {x : sheets.Policy} {b : List ℕ} (p i : ℕ) → PolicyAt s facts x b (48 + p * 12) → p < 16 → i < length (x .clauses) → {start : ℕ} → (p < 16 → i < 8 → start ≡ policyCell b p (4 + i))
+    → (q : ℕ) × (clause facts s start ≡ found (getD (x .clauses) i []) q)
+start-so {s} {facts} {x} {b} p i P h l e =
+    let z : 48 + p * 12 + (4 + i) ≡ 48 + p * 12 + 4 + i = omega arith in
+    let c = P .clauses i l in
+    (c .0, ap (clause facts s) (e h (omega (arith, P .few)) ∙ ap (λ y. getD b y 0) z) ∙ c .1)
 
--- the length of an array of structs, by that of its fields
-pub unmapped {ℓ κ} : {A : Type ℓ} {B : Type κ} (f : A → B) (l : List A) {n : ℕ} → length (map f l) ≡ n → length l ≡ n
-unmapped f l h = sym (length-map l f) ∙ h
+module _ {s : List ℕ} {sheet : Sheet} {d : Directory} {b : List ℕ} (D : Described s sheet d b) where
+  -- a table's facts
+  pub table-so : (t : ℕ) → t < length (sheet .tables) → {table : Table} → (t < 16 → tableOf table ≡ tableIn b t) → tableOf table ≡ tableAt sheet t
+  table-so t T e = e (omega (arith, D .tables)) ∙ D .table t T
 
--- a policy counts where its selector matches and its commands include the command
-pub applies-so : {s : List ℕ} {sheet : Sheet} {d : Directory} (D : Described s sheet d) (t command p : ℕ) → t < length (sheet .tables) → p < length (sheet .policies)
-    → {table : Table} {policy : Policy} {a b : Bool} {e : End} → table ≡ getD (d .table) t noTable → policy ≡ getD (d .policy) p noPolicy
-    → Ends (selector 6 (factsOf sheet) s (policy .selector)) (λ x. a ≡ matches t (tableOf table) x) e → b ≡ member 4 (policy .commands) command
-    → (a && b) ≡ sheets.applies sheet t command (policyAt sheet p)
-applies-so {s} {sheet} {d} D t command p T P {table} {policy} {a} {b} et ep E eb =
-    let x = D .policy p P in
-    let found-so = ap (λ z. selector 6 (factsOf sheet) s (z .selector)) ep ∙ x .selector .1 in
-    let one : a ≡ matches t (tableAt sheet t) (policyAt sheet p .selector) = ends-item E found-so ∙ ap (λ z. matches t z (policyAt sheet p .selector)) (ap tableOf et ∙ D .table t T) in
-    let two : b ≡ member 4 (policyAt sheet p .commands) command = eb ∙ ap (λ z. member 4 z command) (ap (λ z. z .commands) ep ∙ x .commands) in
-    cc
+  module _ (p : ℕ) (P : p < length (sheet .policies)) where
+    pub numbered-policy : p < 16
+    numbered-policy = omega (arith, D .few)
+
+    -- a policy's type, commands and number of clauses
+    pub restrictive-so : {r : Bool} → (p < 16 → r ≡ eqb (policyCell b p 0) 1) → r ≡ policyAt sheet p .restrictive
+    restrictive-so e = let z : 48 + p * 12 + 0 ≡ 48 + p * 12 = omega arith in e numbered-policy ∙ ap (λ y. eqb (getD b y 0) 1) z ∙ D .policy p P .restrictive
+
+    pub commands-so : {n : ℕ} → (p < 16 → n ≡ policyCell b p 1) → n ≡ policyAt sheet p .commands
+    commands-so e = e numbered-policy ∙ D .policy p P .commands
+
+    pub count-so : {n : ℕ} → (p < 16 → n ≡ policyCell b p 3) → n ≡ length (policyAt sheet p .clauses)
+    count-so e = e numbered-policy ∙ D .policy p P .count
+
+    -- the selector read where the book says is the policy's
+    pub matches-so : (t : ℕ) → t < length (sheet .tables) → {table : Table} {start : ℕ} {a : Bool} {e : End} → (t < 16 → tableOf table ≡ tableIn b t) → (p < 16 → start ≡ policyCell b p 2)
+        → Ends (selector 6 (factsOf sheet) s start) (λ x. a ≡ matches t (tableOf table) x) e → a ≡ matches t (tableAt sheet t) (policyAt sheet p .selector)
+    matches-so t T et es E =
+        ends-item E (ap (selector 6 (factsOf sheet) s) (es numbered-policy) ∙ D .policy p P .selector .1) ∙ ap (λ z. matches t z (policyAt sheet p .selector)) (table-so t T et)
+
+    -- a policy counts where its commands include the command and its selector matches
+    module _ (t command : ℕ) {commands : ℕ} {m : Bool} (ec : p < 16 → commands ≡ policyCell b p 1) (em : m ≡ member 4 commands command) where
+      named : m ≡ member 4 (policyAt sheet p .commands) command
+      named = em ∙ ap (λ z. member 4 z command) (commands-so ec)
+
+      pub applies-named : {a : Bool} → m ≡ true → a ≡ matches t (tableAt sheet t) (policyAt sheet p .selector) → a ≡ sheets.applies sheet t command (policyAt sheet p)
+      applies-named {a} h e = let k : member 4 (policyAt sheet p .commands) command ≡ true = sym named ∙ h in rw (k, ← e) (and-true a)
+        where
+          and-true : (x : Bool) → x ≡ (x && true)
+          and-true true = refl
+          and-true false = refl
+
+      pub applies-unnamed : m ≡ false → false ≡ sheets.applies sheet t command (policyAt sheet p)
+      applies-unnamed h = let k : member 4 (policyAt sheet p .commands) command ≡ false = sym named ∙ h in rw k (and-false (matches t (tableAt sheet t) (policyAt sheet p .selector)))
+        where
+          and-false : (x : Bool) → false ≡ (x && false)
+          and-false true = refl
+          and-false false = refl

@@ -1,23 +1,22 @@
 -- The readers of single fields, by what their bits are: one law for each way on.
-use Prim.Native.Nat.{ℕ, _+_, _-_, _<_, _≤_}
+use Prim.Native.Nat.{ℕ, _-_, _<_, _≤_}
 use native.Mathlib.Omega.{arith}
 use mathlib.Core.Path.{_≡_, refl, sym, ap, _∙_}
 use mathlib.Core.Bool.{Bool, true, false, cond, _&&_}
 use mathlib.Core.List.{List}
-use lib.ListN.{length, getD}
-use lib.Dec.{ltb, leb, eqb}
-use borrow.Author.Tests.{le-leb, lt-leb, lt-ltb, le-ltb, eq-eqb, ne-eqb, ltb-true, ltb-false}
+use lib.ListN.{length}
+use lib.Dec.{ltb, leb}
+use borrow.Author.Tests.{le-leb, lt-leb, lt-ltb, le-ltb, eq-eqb, ne-eqb, ltb-true}
 use Rattle.bits.specs.Fields.{placeAt}
 use Rattle.bits.specs.declared.Place.{Place}
 use Rattle.bits.specs.declared.Field.{Field}
 use Rattle.bits.specs.declared.Field.the-variants.{Value, Refused}
-use Rattle.meaning.specs.Values.{integer, kindNumber}
+use Rattle.meaning.specs.Values.{kindNumber}
 use Rattle.meaning.specs.Sheets.{Sheet, kindOf}
 use Rattle.meaning.specs.Reading.{Read, found, refused, onRead, need, field, count, numberBelow, variable, mate}
 use Rattle.values.specs.Reads.{fieldOf}
 use Rattle.sheet.specs.declared.Facts.{Facts}
 use Rattle.sheet.specs.Directory.{FactsAre}
-use Rattle.sheet.specs.Ends.{operator}
 
 -- an answer is what a reader found, or its refusal
 pub value-is : {f : Field} {v o : ℕ} {q : Place} (m : Read ℕ) → f ≡ Value v q → q ≡ placeAt o → m ≡ found v o → f ≡ fieldOf m
@@ -64,33 +63,6 @@ module _ (w most : ℕ) (s : List ℕ) (p : ℕ) where
     unfolding numberBelow
     number-high h = simp (e, le-ltb n most h)
 
--- operators, on a kind by its number
-module _ (k : ℕ) (s : List ℕ) (p : ℕ) where
-  pub operator-lost : {n : ℕ} → field 4 s p ≡ refused n → operator k s p ≡ refused n
-  unfolding operator
-  operator-lost e = simp e
-
-  module _ {o q : ℕ} (e : field 4 s p ≡ found o q) where
-    pub operator-high : 9 ≤ o → operator k s p ≡ refused 5
-    unfolding operator
-    operator-high h = simp (e, le-ltb o 9 h)
-
-    pub operator-low : o < 9 → o < 3 → operator k s p ≡ found o q
-    unfolding operator
-    operator-low h i = simp (e, lt-ltb o 9 h, lt-leb 3 o i)
-
-    pub operator-last : o < 9 → 3 ≤ o → 6 < o → operator k s p ≡ found o q
-    unfolding operator
-    operator-last h i j = simp (e, lt-ltb o 9 h, le-leb 3 o i, lt-leb o 6 j)
-
-    pub operator-integer : o < 9 → 3 ≤ o → o ≤ 6 → k ≡ 0 → operator k s p ≡ found o q
-    unfolding operator
-    operator-integer h i j z = simp (e, lt-ltb o 9 h, le-leb 3 o i, le-leb o 6 j, eq-eqb k 0 z)
-
-    pub operator-other : o < 9 → 3 ≤ o → o ≤ 6 → (k ≡ 0 → ⊥) → operator k s p ≡ refused 7
-    unfolding operator
-    operator-other h i j z = simp (e, lt-ltb o 9 h, le-leb 3 o i, le-leb o 6 j, ne-eqb k 0 z)
-
 -- variables of a sheet with the facts f
 module _ {facts : Sheet} {f : Facts} (F : FactsAre facts f) where
   module _ (s : List ℕ) (p : ℕ) where
@@ -118,17 +90,6 @@ module _ {facts : Sheet} {f : Facts} (F : FactsAre facts f) where
       pub is-key : v < 24 → 16 ≤ v → v - 16 < f .keys → variable facts s p ≡ found v o
       unfolding variable
       is-key h l m = simp (e, lt-ltb v 24 h, le-ltb v 16 l, lt-ltb (v - 16) (length (facts .keys)) (omega (arith, F .keys)))
-
-  -- a variable's kind
-  pub kind-is : (v : ℕ) → v < 24 → getD (f .kinds) v 0 ≡ kindNumber (kindOf facts v)
-  kind-is v h = go (ltb v 16) refl
-    where
-      go : (b : Bool) → ltb v 16 ≡ b → getD (f .kinds) v 0 ≡ kindNumber (kindOf facts v)
-      go true e = rw e (F .kinds .columns v (ltb-true v 16 e))
-      go false e =
-          let l : 16 ≤ v = ltb-false v 16 e in
-          let w : v - 16 + 16 ≡ v = omega arith in
-          rw e (ap (λ x. getD (f .kinds) x 0) (sym w) ∙ F .kinds .keys (v - 16) (omega arith))
 
 -- a variable that is found is below 24
 pub variable-small : (facts : Sheet) (s : List ℕ) (p v q : ℕ) → variable facts s p ≡ found v q → v < 24

@@ -1,84 +1,26 @@
--- The front of a sheet: edition, counts, kinds, tables, by what is read for each.
-use Prim.Native.Nat.{ℕ, zero, suc, _+_, _-_, _<_, _≤_}
+-- The front of a sheet: kinds, tables, by what is read for each.
+use Prim.Native.Nat.{ℕ, zero, suc, _+_, _*_, _^_, _<_, _≤_}
 use native.Mathlib.Omega.{arith}
-use native.Mathlib.Decide.{decLt, ℕ-discrete}
+use native.Mathlib.Decide.{ℕ-discrete}
 use mathlib.Core.Path.{_≡_, refl, sym, ap, _∙_}
-use mathlib.Core.Bool.{Bool, true, false, cond}
-use mathlib.Core.List.{List, [], _∷_, _++_, map}
-use lib.ListN.{length, getD, set, take, length-append, replicate, List·getD-append, List·getD-eq-default}
+use mathlib.Core.Bool.{true, false}
+use mathlib.Core.List.{List, [], _∷_, _++_}
+use lib.ListN.{length, getD, set, length-append, length-set, List·getD-append}
 use lib.Seq.{getD-set-same, getD-set-other, getD-append-add}
-use lib.Dec.{ltb, leb, eqb}
-use borrow.Author.Tests.{le-leb, lt-leb, lt-ltb, le-ltb, eq-eqb, ne-eqb}
-use Rattle.lists.specs.Lists.{numbersFrom, every}
+use lib.Dec.{ltb}
+use borrow.Author.Tests.{lt-ltb, le-ltb}
+use Rattle.bits.specs.Fields.{bitNo, fieldAt}
+use Rattle.bits.specs.declared.Place.{Place}
+use Rattle.bits.specs.declared.Field.{Field}
+use Rattle.bits.specs.declared.Field.the-variants.{Value}
+use Rattle.bits.proofs.Laws.{number-lt, field-is}
 use Rattle.meaning.specs.Values.{Kind, integer, token, boolean, kindNumber}
-use Rattle.meaning.specs.Sheets.{Sheet, member}
+use Rattle.meaning.specs.Sheets.{Table}
 use Rattle.meaning.specs.Allowed.{heldBelow}
-use Rattle.meaning.specs.Reading.{Read, found, refused, onRead, need, field, count, kind, table, counts, tableFacts, times}
-use Rattle.meaning.specs.Reading as m
-use Rattle.sheet.specs.declared.Facts.{Facts}
-use Rattle.sheet.specs.declared.Table.{Table}
-use Rattle.sheet.specs.Directory.{tableOf, noTable, FactsAre}
-use Rattle.sheet.specs.Ends.{edition, numbered}
-use Rattle.sheet.specs.Fronts.{KindsPut, TablesAre, FrontIs}
-
--- the edition
-module _ (s : List ℕ) (p : ℕ) where
-  pub edition-lost : {n : ℕ} → field 4 s p ≡ refused n → edition s p ≡ refused n
-  unfolding edition
-  edition-lost e = simp e
-
-  module _ {v o : ℕ} (e : field 4 s p ≡ found v o) where
-    pub edition-one : v ≡ 1 → edition s p ≡ found v o
-    unfolding edition
-    edition-one h = simp (e, eq-eqb v 1 h)
-
-    pub edition-other : (v ≡ 1 → ⊥) → edition s p ≡ refused 3
-    unfolding edition
-    edition-other h = simp (e, ne-eqb v 1 h)
-
--- the counts, after the edition
-module _ (s : List ℕ) (p : ℕ) where
-  after : ℕ → Read m.Counts
-  after q = onRead (count 5 0 16 s q) (λ c a. onRead (count 4 1 8 s a) (λ k b. onRead (count 5 1 16 s b) (λ t d. onRead (count 5 0 16 s d) (λ n o. found (record { columns = c; keys = k; tables = t; policies = n }) o))))
-
-  cut : counts s p ≡ onRead (edition s p) (λ e q. after q)
-  unfolding counts edition after
-  cut = go (field 4 s p)
-    where
-      test : (b : Bool) (e q : ℕ) → onRead (need b 3 s q) (λ x o. after o) ≡ onRead (onRead (need b 3 s q) (λ x o. found e o)) (λ e o. after o)
-      test true e q = refl
-      test false e q = refl
-
-      go : (r : Read ℕ) → onRead r (λ e q. onRead (need (eqb e 1) 3 s q) (λ x o. after o)) ≡ onRead (onRead r (λ e q. onRead (need (eqb e 1) 3 s q) (λ x o. found e o))) (λ e o. after o)
-      go (found e q) = test (eqb e 1) e q
-      go (refused n) = refl
-
-  pub counts-lost : {n : ℕ} → edition s p ≡ refused n → counts s p ≡ refused n
-  counts-lost e = cut ∙ rw e
-
-  module _ {e a : ℕ} (E : edition s p ≡ found e a) where
-    pub columns-lost : {n : ℕ} → count 5 0 16 s a ≡ refused n → counts s p ≡ refused n
-    unfolding after
-    columns-lost h = cut ∙ simp (E, h)
-
-    module _ {c b : ℕ} (C : count 5 0 16 s a ≡ found c b) where
-      pub keys-lost : {n : ℕ} → count 4 1 8 s b ≡ refused n → counts s p ≡ refused n
-      unfolding after
-      keys-lost h = cut ∙ simp (E, C, h)
-
-      module _ {k d : ℕ} (K : count 4 1 8 s b ≡ found k d) where
-        pub tables-lost : {n : ℕ} → count 5 1 16 s d ≡ refused n → counts s p ≡ refused n
-        unfolding after
-        tables-lost h = cut ∙ simp (E, C, K, h)
-
-        module _ {t f : ℕ} (T : count 5 1 16 s d ≡ found t f) where
-          pub policies-lost : {n : ℕ} → count 5 0 16 s f ≡ refused n → counts s p ≡ refused n
-          unfolding after
-          policies-lost h = cut ∙ simp (E, C, K, T, h)
-
-          pub counts-found : {n o : ℕ} → count 5 0 16 s f ≡ found n o → counts s p ≡ found (record { columns = c; keys = k; tables = t; policies = n }) o
-          unfolding after
-          counts-found h = cut ∙ simp (E, C, K, T, h)
+use Rattle.meaning.specs.Reading.{Read, found, refused, field, kind, table}
+use Rattle.sheet.specs.Directory.{tableIn}
+use Rattle.sheet.specs.Ends.{numbered}
+use Rattle.sheet.specs.Fronts.{KindsPut, TablesIn}
 
 -- kinds, by their numbers
 module _ (s : List ℕ) (p : ℕ) where
@@ -160,3 +102,55 @@ module _ (c : ℕ) (s : List ℕ) (p : ℕ) where
         pub table-high : heldBelow c h ≡ false → table c s p ≡ refused 6
         unfolding table
         table-high e = simp (X, G, H) (rw e)
+
+-- a field that is read at a place is below 2^w
+pub field-low : (s : List ℕ) (at : Place) (w : ℕ) {f : Field} {v : ℕ} {q : Place} → f ≡ fieldAt s at w → f ≡ Value v q → v < 2 ^ w
+field-low s at w {f} {v} {q} e h = omega (arith, field-is s at q w v (sym e ∙ h) .0, number-lt s (bitNo at) w)
+
+-- no table stands in a book yet
+pub tables-none : (b : List ℕ) → TablesIn b []
+tables-none b t h = absurd (omega arith)
+
+-- what stands past the last table
+abbrev none : Table
+none = record { schema = 0; tags = 0; columns = 0 }
+
+-- one more: its three cells, written one after another
+module _ (b : List ℕ) (i x y z : ℕ) (room : 3 * i + 2 < length b) where
+  abbrev one : List ℕ
+  one = set b (3 * i) x
+
+  abbrev two : List ℕ
+  two = set one (3 * i + 1) y
+
+  abbrev written : List ℕ
+  written = set two (3 * i + 2) z
+
+  under : (j : ℕ) → j < 3 * i → getD written j 0 ≡ getD b j 0
+  under j h = getD-set-other two (3 * i + 2) j z 0 (λ e. omega arith) ∙ getD-set-other one (3 * i + 1) j y 0 (λ e. omega arith) ∙ getD-set-other b (3 * i) j x 0 (λ e. omega arith)
+
+  earlier : (t : ℕ) → t < i → tableIn written t ≡ tableIn b t
+  earlier t h = λ k. record { schema = under (3 * t) (omega arith) k; tags = under (3 * t + 1) (omega arith) k; columns = under (3 * t + 2) (omega arith) k }
+
+  schema-here : getD written (3 * i) 0 ≡ x
+  schema-here = getD-set-other two (3 * i + 2) (3 * i) z 0 (λ e. omega arith) ∙ getD-set-other one (3 * i + 1) (3 * i) y 0 (λ e. omega arith) ∙ getD-set-same b (3 * i) x 0 (omega arith)
+
+  tags-here : getD written (3 * i + 1) 0 ≡ y
+  tags-here = getD-set-other two (3 * i + 2) (3 * i + 1) z 0 (λ e. omega arith) ∙ getD-set-same one (3 * i + 1) y 0 (simp length-set (omega arith))
+
+  columns-here : getD written (3 * i + 2) 0 ≡ z
+  columns-here = getD-set-same two (3 * i + 2) z 0 (simp length-set room)
+
+  pub tables-more : (ts : List Table) {t : Table} → TablesIn b ts → length ts ≡ i → record { schema = x; tags = y; columns = z } ≡ t → TablesIn written (ts ++ (t ∷ []))
+  tables-more ts {t} T l e j h = go (ℕ-discrete j i)
+    where
+      this : tableIn written i ≡ record { schema = x; tags = y; columns = z }
+      this = λ k. record { schema = schema-here k; tags = tags-here k; columns = columns-here k }
+
+      go : Dec (j ≡ i) → tableIn written j ≡ getD (ts ++ (t ∷ [])) j none
+      go (yes s) =
+          let last : j ≡ length ts + 0 = omega arith in
+          ap (tableIn written) s ∙ this ∙ e ∙ sym (ap (λ k. getD (ts ++ (t ∷ [])) k none) last ∙ getD-append-add ts (t ∷ []) 0 none)
+      go (no n) =
+          let small : j < length ts = omega (arith, length-append ts (t ∷ [])) in
+          earlier j (omega arith) ∙ T j small ∙ sym (List·getD-append ts (t ∷ []) none j small)

@@ -2,18 +2,15 @@
 use Prim.Native.Nat.{ℕ, zero, suc, _+_, _<_, _≤_}
 use native.Mathlib.Omega.{arith}
 use native.Mathlib.Decide.{decLt}
-use mathlib.Core.Path.{_≡_, refl, sym, ap, _∙_, subst}
-use mathlib.Core.List.{List, [], _∷_, map}
-use lib.ListN.{length, getD, take, replicate, List·getD-eq-default}
+use mathlib.Core.Path.{_≡_, refl, sym, ap, _∙_}
+use mathlib.Core.List.{List, []}
+use lib.ListN.{length, getD, replicate, List·getD-eq-default}
 use Rattle.meaning.specs.Values.{Kind, integer, kindNumber}
-use Rattle.meaning.specs.Sheets.{Sheet}
 use Rattle.meaning.specs.Sheets as sheets
 use Rattle.meaning.specs.Reading.{Read, found, refused, onRead, kind, table, tableFacts, times}
 use Rattle.meaning.specs.Reading as m
 use Rattle.sheet.specs.declared.Facts.{Facts}
-use Rattle.sheet.specs.declared.Table.{Table}
-use Rattle.sheet.specs.Directory.{tableOf, noTable, FactsAre}
-use Rattle.sheet.specs.Fronts.{CountsAre, KindsPut, TablesAre, FrontIs}
+use Rattle.sheet.specs.Fronts.{CountsAre, KindsPut, TablesIn, FrontIs}
 use Rattle.sheet.specs.declared.Counts.{Counts}
 
 -- counts by value are the definition's
@@ -41,17 +38,10 @@ zeros zero j = refl
 zeros (suc n) zero = refl
 zeros (suc n) (suc j) = zeros n j
 
--- an element of the first n, in another form
-mapped : {A B : Type 0} (f : A → B) (n : ℕ) (l : List A) (t : ℕ) (d : A) (e : B) → t < length (map f (take n l)) → f (getD l t d) ≡ getD (map f (take n l)) t e
-mapped f zero l t d e h = absurd (omega arith)
-mapped f (suc n) [] t d e h = absurd (omega arith)
-mapped f (suc n) (x ∷ l) zero d e h = refl
-mapped f (suc n) (x ∷ l) (suc t) d e h = mapped f n l t d e (omega arith)
-
 -- the front by value
-module _ (C K T : ℕ) (given kinds : List ℕ) (cs ks : List Kind) (ts : List sheets.Table) (tables : List Table)
+module _ (C K T : ℕ) (given kinds : List ℕ) (cs ks : List Kind) (ts : List sheets.Table) (b : List ℕ)
     (one : KindsPut 0 (replicate 24 0) given cs) (two : KindsPut 16 given kinds ks) (lc : length cs ≡ C) (lk : length ks ≡ K) (lt : length ts ≡ T) (small : C ≤ 16)
-    (held : map tableOf (take T tables) ≡ ts) where
+    (few : T ≤ 16) (held : TablesIn b ts) where
   column-kind : (c : ℕ) → c < 16 → getD kinds c 0 ≡ kindNumber (getD cs c integer)
   column-kind c h = two .before c h ∙ go (decLt c (length cs))
     where
@@ -66,10 +56,11 @@ module _ (C K T : ℕ) (given kinds : List ℕ) (cs ks : List Kind) (ts : List s
       go (yes x) = let z : k + 16 ≡ 16 + k = omega arith in ap (λ y. getD kinds y 0) z ∙ two .here k x
       go (no x) = two .after (k + 16) (omega arith) ∙ one .after (k + 16) (omega arith) ∙ zeros 24 (k + 16) ∙ ap kindNumber (sym (List·getD-eq-default ks integer (omega arith)))
 
-  pub front-is : FrontIs (record { columns = C; keys = K; tables = T; kinds = kinds }) tables (record { columns = cs; keys = ks; tables = ts; policies = [] })
+  pub front-is : FrontIs (record { columns = C; keys = K; tables = T; kinds = kinds }) b (record { columns = cs; keys = ks; tables = ts; policies = [] })
   front-is =
       record {
         facts = record { columns = sym lc; keys = sym lk; tables = sym lt; kinds = record { columns = column-kind; keys = key-kind } };
-        tables = λ t h. mapped tableOf T tables t noTable _ (subst (λ l. t < length l) (sym held) h) ∙ ap (λ l. getD l t (record { schema = 0; tags = 0; columns = 0 })) held;
+        few = omega arith;
+        tables = λ t h. held t h;
         bare = refl;
       }

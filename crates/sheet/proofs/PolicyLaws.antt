@@ -1,13 +1,13 @@
 -- Policies: what is read for each, and where its selector and clauses stand.
-use Prim.Native.Nat.{ℕ, zero, suc, _+_, _-_, _*_, _/_, _%_, _^_, _<_, _≤_}
+use Prim.Native.Nat.{ℕ, _+_, _*_, _/_, _%_, _<_, _≤_}
 use native.Mathlib.Omega.{arith}
 use native.Mathlib.Decide.{ℕ-discrete}
 use mathlib.Core.Path.{_≡_, refl, sym, ap, _∙_, subst}
-use mathlib.Core.Bool.{Bool, true, false, cond, _&&_}
+use mathlib.Core.Bool.{Bool, true, false, cond}
 use mathlib.Core.List.{List, [], _∷_, _++_}
-use lib.ListN.{length, getD, set, length-append, List·getD-append}
+use lib.ListN.{length, getD, set, length-set, length-append, List·getD-append}
 use lib.Seq.{getD-set-same, getD-set-other, getD-append-add}
-use lib.Dec.{ltb, leb, eqb}
+use lib.Dec.{leb, eqb}
 use borrow.Author.Tests.{lt-ltb, le-ltb, leb-true}
 use Rattle.bits.specs.Bits.{number}
 use Rattle.bits.specs.Fields.{placeAt}
@@ -15,11 +15,10 @@ use Rattle.bits.specs.declared.Place.{Place}
 use Rattle.meaning.specs.Atoms.{Atom}
 use Rattle.meaning.specs.Sheets.{Sheet, Selector, all}
 use Rattle.meaning.specs.Sheets as sheets
-use Rattle.meaning.specs.Reading.{Read, found, refused, onRead, need, field, count, selector, selectorNode, clause, policy, times}
+use Rattle.meaning.specs.Reading.{found, refused, onRead, field, count, selector, selectorNode, clause, policy, times}
 use Rattle.meaning.proofs.ReadLaws.{read-split}
-use Rattle.sheet.specs.declared.Policy.{Policy}
-use Rattle.sheet.specs.Directory.{noPolicy, PolicyAt}
-use Rattle.sheet.specs.Fronts.{StartsAt, PoliciesAt}
+use Rattle.sheet.specs.Directory.{PolicyAt}
+use Rattle.sheet.specs.Fronts.{KeptBelow, StartsAt, PoliciesIn}
 
 -- what is found begins within the bytes
 field-inside : (w : ℕ) (s : List ℕ) (p v o : ℕ) → field w s p ≡ found v o → p ≤ length s * 8
@@ -82,36 +81,100 @@ module _ (facts : Sheet) (s : List ℕ) (p : ℕ) where
           unfolding policy
           policy-of e = simp (T, C, lt-ltb 0 c some, X, e)
 
--- one more of what stands by number: R relates the element at a number of an array to the item at that number
-grown : {A B : Type 0} (R : A → B → Type 0) (l : List A) (xs : List B) (i : ℕ) (a : A) (b : B) (d : A) (e : B) → length xs ≡ i → i < length l
-    → ((j : ℕ) → j < length xs → R (getD l j d) (getD xs j e)) → R a b → (j : ℕ) → j < length (xs ++ (b ∷ [])) → R (getD (set l i a) j d) (getD (xs ++ (b ∷ [])) j e)
-grown R l xs i a b d e n room P r j h = go (ℕ-discrete j i)
+-- cells of a book that writing kept: nothing written, a cell written, one writing after another
+pub kept-none : (n : ℕ) (b : List ℕ) → KeptBelow n b b
+kept-none n b = record { length = refl; cells = λ i h. refl }
+
+pub kept-set : (n : ℕ) (b : List ℕ) (i v : ℕ) → n ≤ i → KeptBelow n b (set b i v)
+kept-set n b i v h = record { length = length-set b i v; cells = λ j l. getD-set-other b i j v 0 (λ e. omega arith) }
+
+pub kept-then : {n m : ℕ} {a b c : List ℕ} → KeptBelow n a b → n ≤ m → KeptBelow m b c → KeptBelow n a c
+kept-then K h L = record { length = L .length ∙ K .length; cells = λ i l. L .cells i (omega arith) ∙ K .cells i l }
+
+-- one more of what stands by number: R relates a number to the item at that number
+grown : {A : Type 0} (R : ℕ → A → Type 0) (xs : List A) (i : ℕ) (a d : A) → length xs ≡ i
+    → ((j : ℕ) → j < length xs → R j (getD xs j d)) → R i a → (j : ℕ) → j < length (xs ++ (a ∷ [])) → R j (getD (xs ++ (a ∷ [])) j d)
+grown R xs i a d n P r j h = go (ℕ-discrete j i)
   where
-    go : Dec (j ≡ i) → R (getD (set l i a) j d) (getD (xs ++ (b ∷ [])) j e)
+    go : Dec (j ≡ i) → R j (getD (xs ++ (a ∷ [])) j d)
     go (yes x) =
         let z : j ≡ length xs + 0 = omega arith in
-        let one : a ≡ getD (set l i a) j d = sym (ap (λ y. getD (set l i a) y d) x ∙ getD-set-same l i a d room) in
-        let two : b ≡ getD (xs ++ (b ∷ [])) j e = sym (ap (λ y. getD (xs ++ (b ∷ [])) y e) z ∙ getD-append-add xs (b ∷ []) 0 e) in
-        subst (λ y. R (getD (set l i a) j d) y) two (subst (λ y. R y b) one r)
+        let one : a ≡ getD (xs ++ (a ∷ [])) j d = sym (ap (λ y. getD (xs ++ (a ∷ [])) y d) z ∙ getD-append-add xs (a ∷ []) 0 d) in
+        subst (R j) one (subst (λ y. R y a) (sym x) r)
     go (no x) =
-        let small : j < length xs = omega (arith, length-append xs (b ∷ [])) in
-        subst (λ y. R (getD (set l i a) j d) y) (sym (List·getD-append xs (b ∷ []) e j small)) (subst (λ y. R y (getD xs j e)) (sym (getD-set-other l i j a d x)) (P j small))
+        let small : j < length xs = omega (arith, length-append xs (a ∷ [])) in
+        subst (R j) (sym (List·getD-append xs (a ∷ []) d j small)) (P j small)
 
 -- where clauses begin, one more
-pub starts-none : (s : List ℕ) (facts : Sheet) (starts : List ℕ) → StartsAt s facts starts []
-starts-none s facts starts = record { at = λ i h. absurd (omega arith) }
+pub starts-none : (s : List ℕ) (facts : Sheet) (b : List ℕ) (from : ℕ) → StartsAt s facts b from []
+starts-none s facts b from = record { at = λ i h. absurd (omega arith) }
 
-pub starts-more : (s : List ℕ) (facts : Sheet) (starts : List ℕ) (cs : List (List Atom)) (i a p : ℕ) (c : List Atom) (o : ℕ) → length cs ≡ i → i < length starts → StartsAt s facts starts cs
-    → a ≡ p → clause facts s p ≡ found c o → StartsAt s facts (set starts i a) (cs ++ (c ∷ []))
-starts-more s facts starts cs i a p c o n room P e h =
-    record { at = grown (λ x y. (q : ℕ) × (clause facts s x ≡ found y q)) starts cs i a c 0 [] n room (P .at) (o, ap (clause facts s) e ∙ h) }
+pub starts-more : {s : List ℕ} {facts : Sheet} {b e : List ℕ} {cs : List (List Atom)} {c : List Atom} {o : ℕ} (from i p : ℕ) → length cs ≡ i → KeptBelow (from + i) b e → StartsAt s facts b from cs
+    → getD e (from + i) 0 ≡ p → clause facts s p ≡ found c o → StartsAt s facts e from (cs ++ (c ∷ []))
+starts-more {s} {facts} {b} {e} {cs} {c} {o} from i p n K P here h =
+    record { at = grown (λ j x. (q : ℕ) × (clause facts s (getD e (from + j) 0) ≡ found x q)) cs i c [] n (λ j l. let x = P .at j l in (x .0, ap (clause facts s) (K .cells (from + j) (omega arith)) ∙ x .1)) (o, ap (clause facts s) here ∙ h) }
+
+-- a policy's four cells, and then where its clauses begin
+abbrev pub put : List ℕ → ℕ → ℕ → ℕ → ℕ → ℕ → List ℕ
+put b from t c q n = set (set (set (set b from t) (from + 1) c) (from + 2) q) (from + 3) n
+
+module _ (b : List ℕ) (from t c q n : ℕ) where
+  abbrev first : List ℕ
+  first = set b from t
+
+  abbrev second : List ℕ
+  second = set first (from + 1) c
+
+  abbrev third : List ℕ
+  third = set second (from + 2) q
+
+  -- each cell is kept by what is written after it
+  kept-third : KeptBelow (from + 3) third (put b from t c q n)
+  kept-third = kept-set (from + 3) third (from + 3) n (omega arith)
+
+  kept-second : KeptBelow (from + 2) second (put b from t c q n)
+  kept-second = kept-then (kept-set (from + 2) second (from + 2) q (omega arith)) (omega arith) kept-third
+
+  kept-first : KeptBelow (from + 1) first (put b from t c q n)
+  kept-first = kept-then (kept-set (from + 1) first (from + 1) c (omega arith)) (omega arith) kept-second
+
+  pub put-kept : KeptBelow from b (put b from t c q n)
+  put-kept = kept-then (kept-set from b from t (omega arith)) (omega arith) kept-first
+
+  pub policy-put : {s : List ℕ} {facts : Sheet} {e : List ℕ} {x : Selector} {o : ℕ} {cs : List (List Atom)} → from + 12 ≤ length b → KeptBelow (from + 4) (put b from t c q n) e → selector 6 facts s q ≡ found x o
+      → length cs ≡ n → n ≤ 8 → StartsAt s facts e (from + 4) cs → PolicyAt s facts (made (eqb t 1) c x cs) e from
+  policy-put {s} {facts} {e} {x} {o} {cs} room K X l few S =
+      let two = length-set b from t in
+      let three = length-set first (from + 1) c in
+      let four = length-set second (from + 2) q in
+      record {
+        restrictive = ap (λ y. eqb y 1) (K .cells from (omega arith) ∙ kept-first .cells from (omega arith) ∙ getD-set-same b from t 0 (omega arith));
+        commands = K .cells (from + 1) (omega arith) ∙ kept-second .cells (from + 1) (omega arith) ∙ getD-set-same first (from + 1) c 0 (omega arith);
+        selector = (o, ap (selector 6 facts s) (K .cells (from + 2) (omega arith) ∙ kept-third .cells (from + 2) (omega arith) ∙ getD-set-same second (from + 2) q 0 (omega arith)) ∙ X);
+        count = K .cells (from + 3) (omega arith) ∙ getD-set-same third (from + 3) n 0 (omega arith) ∙ sym l;
+        few = omega arith;
+        clauses = S .at;
+      }
+
+-- a policy whose twelve cells are kept
+pub policy-kept : {s : List ℕ} {facts : Sheet} {p : sheets.Policy} {b e : List ℕ} {n : ℕ} (from : ℕ) → from + 12 ≤ n → KeptBelow n b e → PolicyAt s facts p b from → PolicyAt s facts p e from
+policy-kept {s} {facts} {p} {b} {e} {n} from h K P =
+    record {
+      restrictive = ap (λ y. eqb y 1) (K .cells from (omega arith)) ∙ P .restrictive;
+      commands = K .cells (from + 1) (omega arith) ∙ P .commands;
+      selector = (P .selector .0, ap (selector 6 facts s) (K .cells (from + 2) (omega arith)) ∙ P .selector .1);
+      count = K .cells (from + 3) (omega arith) ∙ P .count;
+      few = P .few;
+      clauses = λ i l. (P .clauses i l .0, ap (clause facts s) (K .cells (from + 4 + i) (omega (arith, P .few))) ∙ P .clauses i l .1);
+    }
 
 abbrev nothing : sheets.Policy
 nothing = record { restrictive = false; commands = 0; selector = all; clauses = [] }
 
-pub policies-none : (s : List ℕ) (facts : Sheet) (ds : List Policy) → PoliciesAt s facts ds []
-policies-none s facts ds = record { at = λ i h. absurd (omega arith) }
+pub policies-none : (s : List ℕ) (facts : Sheet) (b : List ℕ) → PoliciesIn s facts b []
+policies-none s facts b = record { at = λ i h. absurd (omega arith) }
 
-pub policies-more : (s : List ℕ) (facts : Sheet) (ds : List Policy) (ps : List sheets.Policy) (i : ℕ) (d : Policy) (p : sheets.Policy) → length ps ≡ i → i < length ds → PoliciesAt s facts ds ps
-    → PolicyAt s facts p d → PoliciesAt s facts (set ds i d) (ps ++ (p ∷ []))
-policies-more s facts ds ps i d p n room P h = record { at = grown (λ x y. PolicyAt s facts y x) ds ps i d p noPolicy nothing n room (P .at) h }
+pub policies-more : {s : List ℕ} {facts : Sheet} {b e : List ℕ} {ps : List sheets.Policy} {p : sheets.Policy} (i : ℕ) → length ps ≡ i → KeptBelow (48 + i * 12) b e → PoliciesIn s facts b ps
+    → PolicyAt s facts p e (48 + i * 12) → PoliciesIn s facts e (ps ++ (p ∷ []))
+policies-more {s} {facts} {b} {e} {ps} {p} i n K P h =
+    record { at = grown (λ j x. PolicyAt s facts x e (48 + j * 12)) ps i p nothing n (λ j l. policy-kept (48 + j * 12) (omega arith) K (P .at j l)) h }

@@ -1,31 +1,26 @@
 -- A loop over `every`, and refusal 11 piece by piece.
-use Prim.Native.Nat.{ℕ, zero, suc, _+_, _-_, _<_, _≤_}
+use Prim.Native.Nat.{ℕ, zero, suc, _+_, _<_, _≤_}
 use native.Mathlib.Omega.{arith}
-use native.Mathlib.Nat.{add-zero, add-suc}
+use native.Mathlib.Nat.{add-zero}
 use native.Mathlib.Numerals.{add-one}
 use mathlib.Core.Path.{_≡_, refl, sym, ap, _∙_}
 use mathlib.Core.Bool.{Bool, true, false, cond, _&&_}
-use mathlib.Core.List.{List, [], _∷_, map}
+use mathlib.Core.List.{List, [], _∷_, _++_}
 use lib.ListN.{length, getD, drop, take, drop-of-length-le}
 use lib.Seq.{drop-cons}
 use lib.Dec.{ltb, eqb}
-use borrow.Author.Tests.{lt-ltb, le-ltb, eq-eqb, ne-eqb}
+use borrow.Author.Tests.{lt-ltb, le-ltb, ne-eqb}
 use Rattle.lists.specs.Lists.{numbersFrom, every}
+use Rattle.lists.proofs.BoolLaws.{every-append}
 use Rattle.meaning.specs.declared.Atom.{Atom}
 use Rattle.meaning.specs.Atoms as m
-use Rattle.meaning.specs.Sheets.{Sheet, member, second, matches, tableAt, policyAt, columnsHeld, tablesServe}
+use Rattle.meaning.specs.Sheets.{Sheet, member, second, matches, tableAt, tablesServe}
 use Rattle.meaning.specs.Sheets as sheets
-use Rattle.meaning.specs.Views.{testOf, operatorOf, atomOf, clauseOf}
+use Rattle.meaning.specs.Views.{atomOf}
 use Rattle.sheet.specs.Fronts.{columnHeld, atomHeld, tableServes, policyServes}
 
 -- so far every one passed
 module _ {A : Type 0} (f : A → Bool) (xs : List A) where
-  pub passed : ℕ → Type 0
-  passed i = every f xs ≡ every f (drop i xs)
-
-  pub passed-none : every f xs ≡ every f (drop 0 xs)
-  passed-none = refl
-
   module _ (i : ℕ) (d : A) (h : i < length xs) (e : every f xs ≡ every f (drop i xs)) where
     opened : every f xs ≡ (f (getD xs i d) && every f (drop (suc i) xs))
     opened = e ∙ ap (every f) (drop-cons xs i d h)
@@ -63,16 +58,20 @@ module _ (f : ℕ → Bool) (n i : ℕ) (h : i < n) (e : every f (numbersFrom 0 
 pub numbers-pass : (f : ℕ → Bool) (n i : ℕ) → n ≤ i → every f (numbersFrom 0 n) ≡ every f (drop i (numbersFrom 0 n)) → every f (numbersFrom 0 n) ≡ true
 numbers-pass f n i h e = passed-all f (numbersFrom 0 n) i (omega (arith, numbers-length 0 n)) e
 
+and-last : (p q : Bool) → (p && q) ≡ (p && (q && true))
+and-last true true = refl
+and-last true false = refl
+and-last false q = refl
+
+-- one more is tested
+pub every-more : {A : Type 0} (f : A → Bool) (xs : List A) (a : A) {x y : Bool} → x ≡ every f xs → y ≡ f a → (x && y) ≡ every f (xs ++ (a ∷ []))
+every-more f xs a {x} {y} e h = rw (e, h) (and-last (every f xs) (f a) ∙ sym (every-append f xs (a ∷ [])))
+
 -- an atom's variables
 module _ (columns : ℕ) (a : Atom) where
   pub both-held : {x y : Bool} → a .operator < 1 → x ≡ columnHeld columns (a .variable) → y ≡ columnHeld columns (a .other) → (x && y) ≡ atomHeld columns (atomOf a)
   unfolding atomOf
-  both-held {x} {y} h e f = let z : a .operator ≡ 0 = omega arith in rw (z, e, f) (go (columnHeld columns (a .variable)) (columnHeld columns (a .other)))
-    where
-      go : (p q : Bool) → (p && q) ≡ (p && (q && true))
-      go true true = refl
-      go true false = refl
-      go false q = refl
+  both-held {x} {y} h e f = let z : a .operator ≡ 0 = omega arith in rw (z, e, f) (and-last (columnHeld columns (a .variable)) (columnHeld columns (a .other)))
 
   none-second : (b c d e f g h : Bool) (n : ℕ) (ns : List ℕ) →
       second (cond b (m.in-list ns) (cond c (m.not-in-list ns) (cond d (m.order m.at-most n) (cond e (m.order m.at-least n) (cond f (m.order m.is-below n) (cond g (m.order m.is-above n) (cond h m.is-null m.is-not-null))))))) ≡ []
@@ -93,31 +92,6 @@ module _ (columns : ℕ) (a : Atom) where
       go : (p : Bool) → p ≡ (p && true)
       go true = refl
       go false = refl
-
--- an atom of a clause by value
-pub clause-at : (atoms : List Atom) (count i : ℕ) (d : Atom) (e : m.Atom) → i < count → i < length atoms → getD (map atomOf (take count atoms)) i e ≡ atomOf (getD atoms i d)
-clause-at [] count i d e h l = absurd (omega arith)
-clause-at (x ∷ atoms) zero i d e h l = absurd (omega arith)
-clause-at (x ∷ atoms) (suc count) zero d e h l = refl
-clause-at (x ∷ atoms) (suc count) (suc i) d e h l = clause-at atoms count i d e (omega arith) (omega arith)
-
-pub clause-length : (atoms : List Atom) (count : ℕ) → length (map atomOf (take count atoms)) ≤ count
-clause-length [] zero = omega arith
-clause-length [] (suc count) = omega arith
-clause-length (x ∷ atoms) zero = omega arith
-clause-length (x ∷ atoms) (suc count) = omega (arith, clause-length atoms count)
-
-pub clause-short : (atoms : List Atom) (count : ℕ) → length (map atomOf (take count atoms)) ≤ length atoms
-clause-short [] zero = omega arith
-clause-short [] (suc count) = omega arith
-clause-short (x ∷ atoms) zero = omega arith
-clause-short (x ∷ atoms) (suc count) = omega (arith, clause-short atoms count)
-
-pub clause-long : (atoms : List Atom) (count i : ℕ) → i < count → i < length atoms → i < length (map atomOf (take count atoms))
-clause-long [] count i h l = absurd (omega arith)
-clause-long (x ∷ atoms) zero i h l = absurd (omega arith)
-clause-long (x ∷ atoms) (suc count) zero h l = omega arith
-clause-long (x ∷ atoms) (suc count) (suc i) h l = let r : i < length (map atomOf (take count atoms)) = clause-long atoms count i (omega arith) (omega arith) in omega arith
 
 -- a column below 16 is looked up, a key is not
 pub held-column : {x : Bool} (columns v : ℕ) → v < 16 → x ≡ member 16 columns v → x ≡ columnHeld columns v
@@ -153,7 +127,3 @@ module _ (sheet : Sheet) (x : sheets.Policy) (t : ℕ) {a : Bool} (e : a ≡ mat
 pub serves-so : (sheet : Sheet) {r : Bool} → r ≡ every (policyServes sheet) (sheet .policies) → r ≡ tablesServe sheet
 unfolding tablesServe
 serves-so sheet e = e
-
--- what stands past a clause's last atom
-abbrev pub nowhere : m.Atom
-nowhere = record { variable = 0; operator = m.is-null }

@@ -13,15 +13,15 @@ use Rattle.sheet.specs.declared.Outcome.the-variants as outcome
 use Rattle.sheet.specs.Directory.{Found, Outcomes}
 
 -- an accepted answer, and a refused one
-module _ (s : List ℕ) (d : Directory) {o : Outcome} (r : Outcomes s d o) where
-  pub read-found : o ≡ outcome.Accepted → Found s d
-  read-found e = subst (Outcomes s d) e r
+module _ (s : List ℕ) (d : Directory) (b : List ℕ) {o : Outcome} (r : Outcomes s d b o) where
+  pub read-found : o ≡ outcome.Accepted → Found s d b
+  read-found e = subst (Outcomes s d b) e r
 
   pub read-refused : {n : ℕ} → o ≡ outcome.Refused n → readSheet s ≡ refused n
-  read-refused e = subst (Outcomes s d) e r
+  read-refused e = subst (Outcomes s d b) e r
 
 -- what is found is accepted and allowed
-module _ {s : List ℕ} {d : Directory} (F : Found s d) where
+module _ {s : List ℕ} {d : Directory} {b : List ℕ} (F : Found s d b) where
   pub found-accepted : Accepted s (F .sheet)
   found-accepted = (F .end, F .read)
 

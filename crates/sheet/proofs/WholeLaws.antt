@@ -3,29 +3,25 @@ use Prim.Native.Nat.{ℕ, zero, suc, _+_, _-_, _*_, _/_, _%_, _<_, _≤_}
 use native.Mathlib.Omega.{arith}
 use native.Mathlib.Nat.{zero-div}
 use mathlib.Core.Path.{_≡_, refl, sym, ap, _∙_, subst}
-use mathlib.Core.Bool.{Bool, true, false, cond, _&&_}
+use mathlib.Core.Bool.{Bool, true, false, _&&_}
 use mathlib.Core.List.{List, []}
 use lib.ListN.{length, getD, List·getD-eq-default}
 use lib.Dec.{leb, eqb}
-use borrow.Author.Tests.{le-leb, lt-leb, eq-eqb, ne-eqb}
+use borrow.Author.Tests.{le-leb, lt-leb, eq-eqb}
 use Rattle.bits.specs.Bits.{bitAt, number}
-use Rattle.bits.specs.Fields.{placeAt}
 use Rattle.bits.specs.declared.Place.{Place}
 use Rattle.meaning.specs.Sheets.{Sheet, tablesServe}
 use Rattle.meaning.specs.Sheets as sheets
-use Rattle.meaning.specs.Allowed.{factsOf}
-use Rattle.meaning.specs.Reading.{Read, found, refused, onRead, need, counts, tableFacts, policy, padding, nothingMore, sheetFields, readSheet, times}
+use Rattle.meaning.specs.Reading.{Read, found, refused, onRead, counts, tableFacts, policy, padding, nothingMore, sheetFields, readSheet, times}
 use Rattle.meaning.specs.Reading as m
 use Rattle.sheet.specs.declared.Facts.{Facts}
-use Rattle.sheet.specs.declared.Table.{Table}
-use Rattle.sheet.specs.declared.Policy.{Policy}
 use Rattle.sheet.specs.declared.End.{End}
 use Rattle.sheet.specs.declared.End.the-variants as end
 use Rattle.sheet.specs.declared.Outcome.{Outcome}
 use Rattle.sheet.specs.declared.Outcome.the-variants as outcome
 use Rattle.sheet.specs.declared.Directory.{Directory}
-use Rattle.sheet.specs.Directory.{Described, PolicyAt, noPolicy, Outcomes}
-use Rattle.sheet.specs.Fronts.{FrontIs, PoliciesAt, Closes, FieldsRead}
+use Rattle.sheet.specs.Directory.{tableIn, PolicyAt, Described, Outcomes}
+use Rattle.sheet.specs.Fronts.{FrontIs, KeptBelow, PoliciesIn, Closes, FieldsRead}
 
 -- past the end there are zero bits
 number-past : (s : List ℕ) (p w : ℕ) → length s * 8 ≤ p → number s p w ≡ 0
@@ -114,15 +110,21 @@ module _ (s : List ℕ) where
         pub fields-found : Closes s d true → sheetFields s 0 ≡ found (wholly facts ps) (d + (8 - d % 8) % 8)
         fields-found e = ending ∙ rw e
 
--- what was read is described
-pub described-so : {s : List ℕ} {facts : Sheet} {ps : List sheets.Policy} {f : Facts} {count : ℕ} {ts : List Table} {ds : List Policy} → FrontIs f ts facts → PoliciesAt s facts ds ps → count ≡ length ps
-    → Described s (wholly facts ps) (record { facts = f; policies = count; table = ts; policy = ds })
-described-so {s} {facts} {ps} {f} {count} {ts} {ds} F P l =
+-- a table whose cells are kept is the same table
+table-kept : {n : ℕ} {b after : List ℕ} → KeptBelow n b after → (t : ℕ) → 3 * t + 2 < n → tableIn after t ≡ tableIn b t
+table-kept K t h = λ i. record { schema = K .cells (3 * t) (omega arith) i; tags = K .cells (3 * t + 1) (omega arith) i; columns = K .cells (3 * t + 2) h i }
+
+-- what was read is described: the policies stand after the tables in the book
+pub described-so : {s : List ℕ} {facts : Sheet} {ps : List sheets.Policy} {f : Facts} {count : ℕ} {b after : List ℕ} → FrontIs f b facts → KeptBelow 48 b after → PoliciesIn s facts after ps → count ≡ length ps
+    → count ≤ 16 → Described s (wholly facts ps) (record { facts = f; policies = count }) after
+described-so {s} {facts} {ps} {f} {count} {b} {after} F K P l few =
     record {
       facts = record { columns = F .facts .columns; keys = F .facts .keys; tables = F .facts .tables; kinds = record { columns = F .facts .kinds .columns; keys = F .facts .kinds .keys } };
-      table = λ t h. F .tables t h;
+      tables = F .few;
+      table = λ t h. table-kept K t (omega (arith, F .few)) ∙ F .tables t h;
       policies = l;
-      policy = λ p h. subst (λ x. PolicyAt s x (getD ps p nothing) (getD ds p noPolicy)) (sym (F .bare)) (P .at p h);
+      few = omega arith;
+      policy = λ p h. subst (λ x. PolicyAt s x (getD ps p nothing) after (48 + p * 12)) (sym (F .bare)) (P .at p h);
     }
 
 -- the refusals of a sheet by itself
@@ -153,22 +155,22 @@ pub refused-never : {X : Type 0} {w : End} {q : Place} {n : ℕ} → w ≡ end.A
 refused-never e h = let z : _≡_ {A = ℕ} 0 1 = cc in absurd (omega arith)
 
 -- what reading answers, by its outcome
-module _ (s : List ℕ) (d : Directory) (o : Outcome) where
-  pub fields-lost : {n : ℕ} → o ≡ outcome.Refused n → sheetFields s 0 ≡ refused n → FieldsRead s d o
-  fields-lost e h = subst (FieldsRead s d) (sym e) h
+module _ (s : List ℕ) (d : Directory) (b : List ℕ) (o : Outcome) where
+  pub fields-lost : {n : ℕ} → o ≡ outcome.Refused n → sheetFields s 0 ≡ refused n → FieldsRead s d b o
+  fields-lost e h = subst (FieldsRead s d b) (sym e) h
 
-  pub sheet-refused : {n : ℕ} → o ≡ outcome.Refused n → readSheet s ≡ refused n → Outcomes s d o
-  sheet-refused e h = subst (Outcomes s d) (sym e) h
+  pub sheet-refused : {n : ℕ} → o ≡ outcome.Refused n → readSheet s ≡ refused n → Outcomes s d b o
+  sheet-refused e h = subst (Outcomes s d b) (sym e) h
 
-  module _ (short : length s ≤ 16384) (F : FieldsRead s d o) where
-    pub fields-refused : {n : ℕ} → o ≡ outcome.Refused n → Outcomes s d o
-    fields-refused e = sheet-refused e (sheet-lost s short (subst (FieldsRead s d) e F))
+  module _ (short : length s ≤ 16384) (F : FieldsRead s d b o) where
+    pub fields-refused : {n : ℕ} → o ≡ outcome.Refused n → Outcomes s d b o
+    fields-refused e = sheet-refused e (sheet-lost s short (subst (FieldsRead s d b) e F))
 
-    module _ (e : o ≡ outcome.Accepted) {b : Bool} (S : (sheet : Sheet) → Described s sheet d → b ≡ tablesServe sheet) where
-      pub accepted-so : b ≡ true → Outcomes s d o
+    module _ (e : o ≡ outcome.Accepted) {r : Bool} (S : (sheet : Sheet) → Described s sheet d b → r ≡ tablesServe sheet) where
+      pub accepted-so : r ≡ true → Outcomes s d b o
       accepted-so t =
-          let x = subst (FieldsRead s d) e F in
-          subst (Outcomes s d) (sym e) (record { sheet = x .0; end = x .1; read = sheet-served s short (x .2) (sym (S (x .0) (x .3)) ∙ t); described = x .3 })
+          let x = subst (FieldsRead s d b) e F in
+          subst (Outcomes s d b) (sym e) (record { sheet = x .0; end = x .1; read = sheet-served s short (x .2) (sym (S (x .0) (x .3)) ∙ t); described = x .3 })
 
-      pub unserved-so : b ≡ false → readSheet s ≡ refused 11
-      unserved-so t = let x = subst (FieldsRead s d) e F in sheet-unserved s short (x .2) (sym (S (x .0) (x .3)) ∙ t)
+      pub unserved-so : r ≡ false → readSheet s ≡ refused 11
+      unserved-so t = let x = subst (FieldsRead s d b) e F in sheet-unserved s short (x .2) (sym (S (x .0) (x .3)) ∙ t)

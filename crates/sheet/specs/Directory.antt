@@ -1,9 +1,9 @@
--- A directory, and the sheet that it describes.
-use Prim.Native.Nat.{ℕ, _<_}
+-- A directory with its book, and the sheet that they describe.
+use Prim.Native.Nat.{ℕ, _+_, _*_, _<_, _≤_}
 use mathlib.Core.Path.{_≡_}
-use mathlib.Core.Bool.{false}
 use mathlib.Core.List.{List, []}
-use lib.ListN.{length, getD, replicate}
+use lib.ListN.{length, getD}
+use lib.Dec.{eqb}
 use Rattle.meaning.specs.Sheets as m
 use Rattle.meaning.specs.Sheets.{Sheet, tableAt, policyAt}
 use Rattle.meaning.specs.Reading.{found, refused, selector, clause, readSheet}
@@ -11,7 +11,6 @@ use Rattle.meaning.specs.Allowed.{factsOf}
 use Rattle.meaning.specs.Views.{KindsAre}
 use Rattle.sheet.specs.declared.Facts.{Facts}
 use Rattle.sheet.specs.declared.Table.{Table}
-use Rattle.sheet.specs.declared.Policy.{Policy}
 use Rattle.sheet.specs.declared.Directory.{Directory}
 use Rattle.sheet.specs.declared.Reading.{Reading}
 use Rattle.sheet.specs.declared.Outcome.{Outcome}
@@ -21,12 +20,12 @@ use Rattle.sheet.specs.declared.Outcome.the-variants.{Accepted, Refused}
 abbrev pub tableOf : Table → m.Table
 tableOf t = record { schema = t .schema; tags = t .tags; columns = t .columns }
 
--- what stands past the last table, and past the last policy
-abbrev pub noTable : Table
-noTable = record { schema = 0; tags = 0; columns = 0 }
+-- a book has three cells for each table from cell 0 on, and twelve for each policy from cell 48 on
+abbrev pub tableIn : List ℕ → ℕ → m.Table
+tableIn b t = record { schema = getD b (3 * t) 0; tags = getD b (3 * t + 1) 0; columns = getD b (3 * t + 2) 0 }
 
-abbrev pub noPolicy : Policy
-noPolicy = record { restrictive = false; commands = 0; selector = 0; count = 0; clauses = replicate 8 0 }
+abbrev pub policyCell : List ℕ → ℕ → ℕ → ℕ
+policyCell b p j = getD b (48 + p * 12 + j) 0
 
 -- the counts and kinds of a sheet
 pub record FactsAre (sheet : Sheet) (f : Facts) : Type 0 where
@@ -35,32 +34,35 @@ pub record FactsAre (sheet : Sheet) (f : Facts) : Type 0 where
   pub tables : f .tables ≡ length (sheet .tables)
   pub kinds : KindsAre sheet (f .kinds)
 
--- a policy's fields, and where its selector and each of its clauses are read; they are read by the sheet's facts
-pub record PolicyAt (s : List ℕ) (facts : Sheet) (p : m.Policy) (d : Policy) : Type 0 where
-  pub restrictive : d .restrictive ≡ p .restrictive
-  pub commands : d .commands ≡ p .commands
-  pub selector : (q : ℕ) × (selector 6 facts s (d .selector) ≡ found (p .selector) q)
-  pub count : d .count ≡ length (p .clauses)
-  pub clauses : (i : ℕ) → i < length (p .clauses) → (q : ℕ) × (clause facts s (getD (d .clauses) i 0) ≡ found (getD (p .clauses) i []) q)
+-- a policy's fields from cell `from` of a book on, and where its selector and each of its clauses are read; they are read by the sheet's facts
+pub record PolicyAt (s : List ℕ) (facts : Sheet) (p : m.Policy) (b : List ℕ) (from : ℕ) : Type 0 where
+  pub restrictive : eqb (getD b from 0) 1 ≡ p .restrictive
+  pub commands : getD b (from + 1) 0 ≡ p .commands
+  pub selector : (q : ℕ) × (selector 6 facts s (getD b (from + 2) 0) ≡ found (p .selector) q)
+  pub count : getD b (from + 3) 0 ≡ length (p .clauses)
+  pub few : length (p .clauses) ≤ 8
+  pub clauses : (i : ℕ) → i < length (p .clauses) → (q : ℕ) × (clause facts s (getD b (from + 4 + i) 0) ≡ found (getD (p .clauses) i []) q)
 
--- the directory d describes the sheet that stands packed in s
-pub record Described (s : List ℕ) (sheet : Sheet) (d : Directory) : Type 0 where
+-- the directory d with the book b describes the sheet that stands packed in s
+pub record Described (s : List ℕ) (sheet : Sheet) (d : Directory) (b : List ℕ) : Type 0 where
   pub facts : FactsAre sheet (d .facts)
-  pub table : (t : ℕ) → t < length (sheet .tables) → tableOf (getD (d .table) t noTable) ≡ tableAt sheet t
+  pub tables : length (sheet .tables) ≤ 16
+  pub table : (t : ℕ) → t < length (sheet .tables) → tableIn b t ≡ tableAt sheet t
   pub policies : d .policies ≡ length (sheet .policies)
-  pub policy : (p : ℕ) → p < length (sheet .policies) → PolicyAt s (factsOf sheet) (policyAt sheet p) (getD (d .policy) p noPolicy)
+  pub few : length (sheet .policies) ≤ 16
+  pub policy : (p : ℕ) → p < length (sheet .policies) → PolicyAt s (factsOf sheet) (policyAt sheet p) b (48 + p * 12)
 
--- the bytes s are an accepted sheet, which d describes
-pub record Found (s : List ℕ) (d : Directory) : Type 0 where
+-- the bytes s are an accepted sheet, which d describes with the book b
+pub record Found (s : List ℕ) (d : Directory) (b : List ℕ) : Type 0 where
   pub sheet : Sheet
   pub end : ℕ
   pub read : readSheet s ≡ found sheet end
-  pub described : Described s sheet d
+  pub described : Described s sheet d b
 
 -- what reading the bytes s answers
-abbrev pub Outcomes : List ℕ → Directory → Outcome → Type 0
-Outcomes s d Accepted = Found s d
-Outcomes s d (Refused n) = readSheet s ≡ refused n
+abbrev pub Outcomes : List ℕ → Directory → List ℕ → Outcome → Type 0
+Outcomes s d b Accepted = Found s d b
+Outcomes s d b (Refused n) = readSheet s ≡ refused n
 
-abbrev pub SheetRead : List ℕ → Reading → Type 0
-SheetRead s r = Outcomes s (r .directory) (r .outcome)
+abbrev pub SheetRead : List ℕ → List ℕ → Reading → Type 0
+SheetRead s b r = Outcomes s (r .directory) b (r .outcome)

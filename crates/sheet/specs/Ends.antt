@@ -1,16 +1,13 @@
 -- Where a reading ends, as the code answers it, and what holds of what it found.
 use Prim.Native.Nat.{ℕ, _≤_}
 use mathlib.Core.Path.{_≡_}
-use mathlib.Core.Bool.{cond, true, _&&_}
 use mathlib.Core.List.{List}
-use lib.Dec.{ltb, leb, eqb}
 use Rattle.bits.specs.Fields.{placeAt}
 use Rattle.bits.specs.declared.Place.{Place}
 use Rattle.bits.specs.declared.Field.{Field}
 use Rattle.bits.specs.declared.Field.the-variants as field
 use Rattle.meaning.specs.Values.{Kind, kindNumber}
-use Rattle.meaning.specs.Reading.{Read, found, refused, Reader, _>>=_, _>>_, give, need}
-use Rattle.meaning.specs.Reading as reading
+use Rattle.meaning.specs.Reading.{Read, found, refused}
 use Rattle.sheet.specs.declared.End.{End}
 use Rattle.sheet.specs.declared.End.the-variants.{At, Refused}
 
@@ -31,21 +28,6 @@ pub data Ends {A : Type 0} (m : Read A) (Holds : A → Type 0) : End → Type 0 
 abbrev pub AtMost : ℕ → Field → Type 0
 AtMost most (field.Value n q) = n ≤ most
 AtMost most (field.Refused n) = Unit {0}
-
--- "operator 9..15" is 5, "an order operator on a non-integer" 7: the part of meaning's atom that judges an operator on a variable of kind number k
-unfoldable pub operator : ℕ → Reader ℕ
-operator k = do
-  o ← reading.field 4
-  need (ltb o 9) 5
-  need (cond (leb 3 o && leb o 6) (eqb k 0) true) 7
-  give o
-
--- "edition other than 1" is 3: how meaning's counts begin
-unfoldable pub edition : Reader ℕ
-edition = do
-  e ← reading.field 4
-  need (eqb e 1) 3
-  give e
 
 -- a kind by its number
 abbrev pub numbered : Read Kind → Read ℕ

@@ -1,5 +1,5 @@
 -- The front of a sheet by value: its counts and its kinds.
-use Prim.Native.Nat.{ℕ, _+_, _-_, _%_, _<_, _≤_}
+use Prim.Native.Nat.{ℕ, _+_, _-_, _*_, _%_, _<_, _≤_}
 use mathlib.Core.Path.{_≡_}
 use mathlib.Core.Bool.{Bool, true, false, cond}
 use mathlib.Core.List.{List, [], _∷_}
@@ -14,12 +14,10 @@ use Rattle.meaning.specs.Allowed.{factsOf}
 use Rattle.lists.specs.Lists.{numbersFrom, every}
 use lib.Dec.{ltb}
 use Rattle.sheet.specs.declared.Facts.{Facts}
-use Rattle.sheet.specs.declared.Table.{Table}
-use Rattle.sheet.specs.declared.Policy.{Policy}
 use Rattle.sheet.specs.declared.Directory.{Directory}
 use Rattle.sheet.specs.declared.Outcome.{Outcome}
 use Rattle.sheet.specs.declared.Outcome.the-variants.{Accepted, Refused}
-use Rattle.sheet.specs.Directory.{tableOf, noTable, noPolicy, FactsAre, PolicyAt, Described}
+use Rattle.sheet.specs.Directory.{tableIn, FactsAre, PolicyAt, Described}
 use Rattle.sheet.specs.declared.Counts.{Counts}
 
 -- the counts that the definitions read
@@ -42,32 +40,38 @@ pub record KindsPut (from : ℕ) (given kinds : List ℕ) (ks : List Kind) : Typ
   pub here : (j : ℕ) → j < length ks → getD kinds (from + j) 0 ≡ kindNumber (getD ks j integer)
   pub after : (j : ℕ) → from + length ks ≤ j → getD kinds j 0 ≡ getD given j 0
 
--- the tables of a sheet by value
-abbrev pub TablesAre : Sheet → List Table → Type 0
-TablesAre sheet ts = (t : ℕ) → t < length (sheet .tables) → tableOf (getD ts t noTable) ≡ tableAt sheet t
+-- the tables ts stand in a book
+abbrev pub TablesIn : List ℕ → List sheets.Table → Type 0
+TablesIn b ts = (t : ℕ) → t < length ts → tableIn b t ≡ getD ts t (record { schema = 0; tags = 0; columns = 0 })
 
--- a sheet without its policies by value
-pub record FrontIs (f : Facts) (ts : List Table) (sheet : Sheet) : Type 0 where
+-- a sheet without its policies: by value, its tables in a book
+pub record FrontIs (f : Facts) (b : List ℕ) (sheet : Sheet) : Type 0 where
   pub facts : FactsAre sheet f
-  pub tables : TablesAre sheet ts
+  pub few : length (sheet .tables) ≤ 16
+  pub tables : TablesIn b (sheet .tables)
   pub bare : factsOf sheet ≡ sheet
 
--- where clauses begin
-pub record StartsAt (s : List ℕ) (facts : Sheet) (starts : List ℕ) (cs : List (List Atom)) : Type 0 where
-  pub at : (i : ℕ) → i < length cs → (q : ℕ) × (clause facts s (getD starts i 0) ≡ found (getD cs i []) q)
+-- writing left a book's cells below n as they were, and its length
+pub record KeptBelow (n : ℕ) (before after : List ℕ) : Type 0 where
+  pub length : length after ≡ length before
+  pub cells : (i : ℕ) → i < n → getD after i 0 ≡ getD before i 0
 
--- policies by value
-pub record PoliciesAt (s : List ℕ) (facts : Sheet) (ds : List Policy) (ps : List sheets.Policy) : Type 0 where
-  pub at : (i : ℕ) → i < length ps → PolicyAt s facts (getD ps i (record { restrictive = false; commands = 0; selector = all; clauses = [] })) (getD ds i noPolicy)
+-- the cells of a book from `from` on say where clauses begin
+pub record StartsAt (s : List ℕ) (facts : Sheet) (b : List ℕ) (from : ℕ) (cs : List (List Atom)) : Type 0 where
+  pub at : (i : ℕ) → i < length cs → (q : ℕ) × (clause facts s (getD b (from + i) 0) ≡ found (getD cs i []) q)
+
+-- policies in a book
+pub record PoliciesIn (s : List ℕ) (facts : Sheet) (b : List ℕ) (ps : List sheets.Policy) : Type 0 where
+  pub at : (i : ℕ) → i < length ps → PolicyAt s facts (getD ps i (record { restrictive = false; commands = 0; selector = all; clauses = [] })) b (48 + i * 12)
 
 -- "zero bits to the end of the byte and nothing more"
 abbrev pub Closes : List ℕ → ℕ → Bool → Type 0
 Closes s p r = onRead (padding s p) (λ u q. nothingMore s q) ≡ cond r (found tt (p + (8 - p % 8) % 8)) (refused 10)
 
 -- what reading every field answers
-abbrev pub FieldsRead : List ℕ → Directory → Outcome → Type 0
-FieldsRead s d Accepted = (sheet : Sheet) × (end : ℕ) × (sheetFields s 0 ≡ found sheet end) × Described s sheet d
-FieldsRead s d (Refused n) = sheetFields s 0 ≡ refused n
+abbrev pub FieldsRead : List ℕ → Directory → List ℕ → Outcome → Type 0
+FieldsRead s d b Accepted = (sheet : Sheet) × (end : ℕ) × (sheetFields s 0 ≡ found sheet end) × Described s sheet d b
+FieldsRead s d b (Refused n) = sheetFields s 0 ≡ refused n
 
 -- Refusal 11, piece by piece: a variable that a table with these columns has, an atom, a policy's clauses, a table, a policy
 abbrev pub columnHeld : ℕ → ℕ → Bool

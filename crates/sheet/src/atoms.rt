@@ -6,12 +6,12 @@ use crate::Values;
 use crate::fields::count_at;
 use crate::fields::kind_of;
 use crate::fields::mate_at;
-use crate::fields::operator_at;
-use crate::fields::variable_at;
 use bits::Field;
 use bits::Place;
 use bits::code_of;
 use meaning::Atom;
+use place::AtomHead;
+use place::atom_head;
 use values::value_at;
 ghost use mathlib.Core.Path.{_≡_};
 ghost use Prim.Native.Nat.{ℕ, _≤_, _<_};
@@ -155,14 +155,12 @@ fn operand_at(s: &[u8], at: Place, f: Facts, kind: u8, v: u64, op: u64) -> AtomR
 pub fn atom_at(s: &[u8], at: Place, f: Facts) -> AtomRead
     ensures { λ r. ⌜ ((facts : Sheet) (p : ℕ) → FactsAre facts f → at ≡ placeAt p → Ends (atom facts (now (s .entry)) p) (λ a. atomOf (r .atom) ≡ a) (r .end)) ⌝ }
 {
-    let first = variable_at(s, at, f);
-    let Field::Value(v, q) = first else {
-        return no_atom(first);
-    };
-    let kind = kind_of(f, v);
-    let second = operator_at(s, q, kind);
-    let Field::Value(op, next) = second else {
-        return no_atom(second);
-    };
-    operand_at(s, next, f, kind, v, op)
+    let columns = f.columns;
+    let keys = f.keys;
+    let kinds = f.kinds;
+    let head = atom_head(s, at, columns, keys, kinds);
+    match head {
+        AtomHead::Head(v, op, next) => operand_at(s, next, f, kind_of(f, v), v, op),
+        AtomHead::Refused(n) => no_atom(Field::Refused(n)),
+    }
 }

@@ -2,8 +2,10 @@
 use crate::ClauseRead;
 use crate::End;
 use crate::Facts;
+use crate::Held;
 use crate::atoms::atom_at;
 use crate::fields::count_at;
+use crate::selectors::is_member;
 use bits::Field;
 use bits::Place;
 use bits::code_of;
@@ -13,13 +15,15 @@ ghost use mathlib.Core.Path.{_≡_};
 ghost use Prim.Native.Nat.{ℕ, _≤_};
 ghost use mathlib.Core.List.{List};
 ghost use Rattle.bits.specs.Fields.{placeAt, codeOf};
+ghost use Rattle.lists.specs.Lists.{every};
 ghost use Rattle.meaning.specs.Atoms as atoms;
 ghost use Rattle.meaning.specs.Sheets.{Sheet};
 ghost use Rattle.meaning.specs.Reading.{found, times, atom, clause};
 ghost use Rattle.meaning.specs.Allowed.{factsOf};
-ghost use Rattle.meaning.specs.Views.{clauseOf};
+ghost use Rattle.meaning.specs.Views.{atomOf, clauseOf};
 ghost use Rattle.sheet.specs.Directory.{FactsAre};
 ghost use Rattle.sheet.specs.Ends.{Ends};
+ghost use Rattle.sheet.specs.Fronts.{columnHeld, atomHeld};
 ghost use Rattle.sheet.specs.declared.End.the-variants as end;
 
 // No atom: what stands past a clause's last.
@@ -103,4 +107,66 @@ pub fn clause_at(s: &[u8], p: usize, f: Facts) -> Clause
         f,
     );
     got.clause
+}
+
+// A column that the set holds, or a key.
+fn is_held(columns: u64, v: u64) -> bool
+    ensures { λ r. ⌜ r ≡ columnHeld columns v ⌝ }
+{
+    if v < 16 {
+        return is_member(16, columns, v);
+    }
+    true
+}
+
+fn atom_held(a: Atom, columns: u64) -> bool
+    ensures { λ r. ⌜ r ≡ atomHeld columns (atomOf a) ⌝ }
+{
+    let op = a.operator;
+    let first = is_held(columns, a.variable);
+    if op < 1 {
+        return first & is_held(columns, a.other);
+    }
+    first
+}
+
+// Where `count` atoms end, and whether the set holds every column that they use. None is kept.
+fn atoms_held(s: &[u8], at: Place, f: Facts, count: usize, columns: u64) -> Held
+    ensures { λ r. ⌜ ((facts : Sheet) (p : ℕ) → FactsAre facts f → at ≡ placeAt p → Ends (times count (atom facts) (now (s .entry)) p) (λ c. r .held ≡ every (atomHeld columns) c) (r .end)) ⌝ }
+{
+    let mut held = true;
+    let mut p = at;
+    let mut i = 0;
+    while i < count {
+        let got = atom_at(s, p, f);
+        let end = got.end;
+        let End::At(next) = end else {
+            return Held {
+                end: end,
+                held: held,
+            };
+        };
+        let a = got.atom;
+        held = held & atom_held(a, columns);
+        p = next;
+        i += 1;
+    }
+    Held {
+        end: End::At(p),
+        held: held,
+    }
+}
+
+// Where a clause ends, and whether the set holds every column that its atoms use.
+pub fn clause_held(s: &[u8], at: Place, f: Facts, columns: u64) -> Held
+    ensures { λ r. ⌜ ((facts : Sheet) (p : ℕ) → FactsAre facts f → at ≡ placeAt p → Ends (clause facts (now (s .entry)) p) (λ c. r .held ≡ every (atomHeld columns) c) (r .end)) ⌝ }
+{
+    let got = count_at(s, at, 4, 0, 8);
+    let Field::Value(n, q) = got else {
+        return Held {
+            end: End::Refused(code_of(got)),
+            held: true,
+        };
+    };
+    atoms_held(s, q, f, n as usize, columns)
 }

@@ -1,4 +1,4 @@
-// The fields that policies are made of: variables, operators, counts. Each answers its value with the next place, or its refusal: "2 before
+// The fields that policies are made of: variables, counts. Each answers its value with the next place, or its refusal: "2 before
 // the field's own fault", and 5, 6, 7 in that order.
 use crate::Facts;
 use bits::Field;
@@ -13,7 +13,7 @@ ghost use Rattle.meaning.specs.Values.{kindNumber};
 ghost use Rattle.meaning.specs.Reading.{count, numberBelow, variable, mate};
 ghost use Rattle.values.specs.Reads.{fieldOf};
 ghost use Rattle.sheet.specs.Directory.{FactsAre};
-ghost use Rattle.sheet.specs.Ends.{AtMost, operator};
+ghost use Rattle.sheet.specs.Ends.{AtMost};
 
 // A count from `low` to `high`.
 pub fn count_at(s: &[u8], at: Place, width: usize, low: u64, high: u64) -> Field
@@ -81,29 +81,6 @@ pub fn kind_of(f: Facts, v: u64) -> u8
         return kinds[i];
     }
     0
-}
-
-// An operator that fits a kind.
-pub fn operator_at(s: &[u8], at: Place, kind: u8) -> Field
-    ensures { λ r. ⌜ ((p : ℕ) → at ≡ placeAt p → r ≡ fieldOf (operator kind (now (s .entry)) p)) ⌝ }
-{
-    let got = field_at(s, at, 4);
-    let Field::Value(o, _) = got else {
-        return got;
-    };
-    if 9 <= o {
-        return Field::Refused(5);
-    }
-    if o < 3 {
-        return got;
-    }
-    if 6 < o {
-        return got;
-    }
-    if kind == 0 {
-        return got;
-    }
-    Field::Refused(7)
 }
 
 // An equality's second variable, of the first one's kind.

@@ -1,7 +1,7 @@
 // A packed sheet, read. Bytes come in; out goes a directory of an accepted sheet, or the refusal number (1 to 11) that document 01 gives, in
-// its fixed order. The caller's bytes stay the only copy: the directory has the counts, the kinds, the table facts, and the places of selectors
-// and clauses, so that no later layer parses again. Stands on bits and meaning; specs/Directory.antt ties a directory to the sheet that the
-// definitions read.
+// its fixed order. The caller's bytes stay the only copy: the directory has the counts and kinds, and a lent book the table facts and the places
+// of selectors and clauses, so that no later layer parses again and nothing large is copied. Stands on bits, meaning, values and place;
+// specs/Directory.antt ties a directory and its book to the sheet that the definitions read.
 
 use bits::Place;
 use meaning::Atom;
@@ -31,26 +31,16 @@ pub struct Facts {
 
 // "each table: schema, tags, columns held"
 pub struct Table {
-    pub schema: u64,
-    pub tags: u64,
-    pub columns: u64,
+    pub schema: u32,
+    pub tags: u32,
+    pub columns: u32,
 }
 
-// A policy's fields; its selector and its clauses by the numbers of their first bits.
-pub struct Policy {
-    pub restrictive: bool,
-    pub commands: u64,
-    pub selector: usize,
-    pub count: usize,
-    pub clauses: [usize; 8],
-}
-
-// What an accepted sheet holds.
+// What an accepted sheet holds, beside its book of 240 cells: three for each table from cell 0 on (schema, tags, columns held), and twelve for
+// each policy from cell 48 on (type, commands, where its selector begins, how many clauses it has, where each of them begins).
 pub struct Directory {
     pub facts: Facts,
     pub policies: u64,
-    pub table: [Table; 16],
-    pub policy: [Policy; 16],
 }
 
 // What becomes of a sheet. A refusal's directory is all zeros.
@@ -112,30 +102,14 @@ pub struct TableRead {
     pub table: Table,
 }
 
-pub struct Tables {
-    pub end: End,
-    pub tables: [Table; 16],
-}
-
-// What stands before the policies.
+// What stands before the policies, but for the table facts.
 pub struct Front {
     pub end: End,
     pub facts: Facts,
-    pub tables: [Table; 16],
 }
 
-// Where clauses begin.
-pub struct Starts {
+// Atoms read: does a set hold every column that they use?
+pub struct Held {
     pub end: End,
-    pub starts: [usize; 8],
-}
-
-pub struct PolicyRead {
-    pub end: End,
-    pub policy: Policy,
-}
-
-pub struct Policies {
-    pub end: End,
-    pub policies: [Policy; 16],
+    pub held: bool,
 }

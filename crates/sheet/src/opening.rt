@@ -6,83 +6,47 @@ use crate::Front;
 use crate::Kinds;
 use crate::Table;
 use crate::TableRead;
-use crate::Tables;
-use crate::fields::count_at;
 use crate::selectors::is_member;
 use bits::Field;
 use bits::Place;
 use bits::code_of;
 use bits::field_at;
+use place::SheetHead;
+use place::sheet_head;
 ghost use mathlib.Core.Path.{_≡_};
 ghost use Prim.Native.Nat.{ℕ, _+_, _≤_};
-ghost use mathlib.Core.List.{List, map};
-ghost use lib.ListN.{take};
+ghost use mathlib.Core.List.{List};
+ghost use lib.ListN.{length};
 ghost use Rattle.bits.specs.Fields.{placeAt, codeOf};
 ghost use Rattle.meaning.specs.Allowed.{heldBelow};
 ghost use Rattle.meaning.specs.Reading.{times, kind, table, counts, tableFacts};
 ghost use Rattle.meaning.specs.Reading as reading;
 ghost use Rattle.values.specs.Reads.{fieldOf};
 ghost use Rattle.sheet.specs.Directory.{tableOf};
-ghost use Rattle.sheet.specs.Ends.{Ends, AtMost, numbered, edition};
-ghost use Rattle.sheet.specs.Fronts.{CountsAre, CountsFit, KindsPut, FrontIs};
+ghost use Rattle.sheet.specs.Ends.{Ends, AtMost, numbered};
+ghost use Rattle.sheet.specs.Fronts.{CountsAre, CountsFit, KindsPut, TablesIn, FrontIs};
 ghost use Rattle.sheet.specs.declared.End.the-variants as end;
 
-fn no_counts(got: Field) -> Counts
-    ensures { λ r. ⌜ (r .end ≡ end.Refused (codeOf got)) × CountsFit r ⌝ }
-{
-    Counts {
-        end: End::Refused(code_of(got)),
-        columns: 0,
-        keys: 0,
-        tables: 0,
-        policies: 0,
-    }
-}
-
-// "edition": 1
-fn edition_at(s: &[u8]) -> Field
-    ensures { λ r. ⌜ r ≡ fieldOf (edition (now (s .entry)) 0) ⌝ }
-{
-    let got = field_at(s, Place { byte: 0, bit: 0 }, 4);
-    let Field::Value(v, _) = got else {
-        return got;
-    };
-    if v == 1 {
-        return got;
-    }
-    Field::Refused(3)
-}
-
-// "columns C, keys K, tables T, policies P"
+// "edition", and "columns C, keys K, tables T, policies P"
 pub fn counts_at(s: &[u8]) -> Counts
     ensures { λ r. ⌜ Ends (counts (now (s .entry)) 0) (CountsAre r) (r .end) × CountsFit r ⌝ }
 {
-    let e = edition_at(s);
-    let Field::Value(_, at) = e else {
-        return no_counts(e);
-    };
-    let c = count_at(s, at, 5, 0, 16);
-    let Field::Value(columns, p) = c else {
-        return no_counts(c);
-    };
-    let k = count_at(s, p, 4, 1, 8);
-    let Field::Value(keys, q) = k else {
-        return no_counts(k);
-    };
-    let t = count_at(s, q, 5, 1, 16);
-    let Field::Value(tables, r) = t else {
-        return no_counts(t);
-    };
-    let n = count_at(s, r, 5, 0, 16);
-    let Field::Value(policies, next) = n else {
-        return no_counts(n);
-    };
-    Counts {
-        end: End::At(next),
-        columns: columns,
-        keys: keys,
-        tables: tables,
-        policies: policies,
+    let head = sheet_head(s);
+    match head {
+        SheetHead::Counts(columns, keys, tables, policies, next) => Counts {
+            end: End::At(next),
+            columns: columns,
+            keys: keys,
+            tables: tables,
+            policies: policies,
+        },
+        SheetHead::Refused(n) => Counts {
+            end: End::Refused(n),
+            columns: 0,
+            keys: 0,
+            tables: 0,
+            policies: 0,
+        },
     }
 }
 
@@ -177,56 +141,41 @@ fn table_at(s: &[u8], at: Place, c: u64) -> TableRead
         return TableRead {
             end: End::At(next),
             table: Table {
-                schema: schema,
-                tags: tags,
-                columns: columns,
+                schema: schema as u32,
+                tags: tags as u32,
+                columns: columns as u32,
             },
         };
     }
     no_table(Field::Refused(6))
 }
 
-// The facts of `count` tables.
-pub fn tables_at(s: &[u8], at: Place, c: u64, count: usize) -> Tables
-    requires { ⌜ count ≤ 16 ⌝ }
-    ensures { λ r. ⌜ ((p : ℕ) → at ≡ placeAt p → Ends (times count (table c) (now (s .entry)) p) (λ ts. map tableOf (take count (r .tables)) ≡ ts) (r .end)) ⌝ }
+// The facts of `count` tables, put into the book.
+pub fn tables_at(s: &[u8], at: Place, c: u64, count: usize, book: &mut [u32]) -> End
+    requires { ⌜ (count ≤ 16) × (length (now book) ≡ 240) ⌝ }
+    ensures { λ r. ⌜ (length (now (book .exit)) ≡ 240) × ((p : ℕ) → at ≡ placeAt p → Ends (times count (table c) (now (s .entry)) p) (TablesIn (now (book .exit))) r) ⌝ }
 {
-    let none = Table {
-        schema: 0,
-        tags: 0,
-        columns: 0,
-    };
-    let mut tables = [none; 16];
     let mut p = at;
     let mut i = 0;
     while i < count {
         let got = table_at(s, p, c);
         let end = got.end;
         let End::At(next) = end else {
-            return Tables {
-                end: end,
-                tables: tables,
-            };
+            return end;
         };
         let t = got.table;
-        tables[i] = t;
+        book[3 * i] = t.schema;
+        book[3 * i + 1] = t.tags;
+        book[3 * i + 2] = t.columns;
         p = next;
         i += 1;
     }
-    Tables {
-        end: End::At(p),
-        tables: tables,
-    }
+    End::At(p)
 }
 
 fn no_front(end: End) -> Front
     ensures { λ r. ⌜ r .end ≡ end ⌝ }
 {
-    let none = Table {
-        schema: 0,
-        tags: 0,
-        columns: 0,
-    };
     Front {
         end: end,
         facts: Facts {
@@ -235,14 +184,13 @@ fn no_front(end: End) -> Front
             tables: 0,
             kinds: [0u8; 24],
         },
-        tables: [none; 16],
     }
 }
 
 // Kinds and table facts, after the counts.
-pub fn front_at(s: &[u8], n: Counts, at: Place) -> Front
-    requires { ⌜ CountsFit n ⌝ }
-    ensures { λ r. ⌜ ((m : reading.Counts) (p : ℕ) → CountsAre n m → at ≡ placeAt p → Ends (tableFacts m (now (s .entry)) p) (FrontIs (r .facts) (r .tables)) (r .end)) ⌝ }
+pub fn front_at(s: &[u8], n: Counts, at: Place, book: &mut [u32]) -> Front
+    requires { ⌜ CountsFit n × (length (now book) ≡ 240) ⌝ }
+    ensures { λ r. ⌜ (length (now (book .exit)) ≡ 240) × ((m : reading.Counts) (p : ℕ) → CountsAre n m → at ≡ placeAt p → Ends (tableFacts m (now (s .entry)) p) (FrontIs (r .facts) (now (book .exit))) (r .end)) ⌝ }
 {
     let columns = n.columns;
     let keys = n.keys;
@@ -259,9 +207,7 @@ pub fn front_at(s: &[u8], n: Counts, at: Place) -> Front
     let End::At(q) = end else {
         return no_front(end);
     };
-    let ts = tables_at(s, q, columns, count as usize);
-    let last = ts.end;
-    let tables = ts.tables;
+    let last = tables_at(s, q, columns, count as usize, book);
     Front {
         end: last,
         facts: Facts {
@@ -270,6 +216,5 @@ pub fn front_at(s: &[u8], n: Counts, at: Place) -> Front
             tables: count,
             kinds: kinds,
         },
-        tables: tables,
     }
 }

@@ -1,12 +1,8 @@
 // Policies: type, commands, and the places of the selector and of each clause.
 use crate::End;
 use crate::Facts;
-use crate::Policies;
-use crate::Policy;
-use crate::PolicyRead;
-use crate::Starts;
 use crate::Table;
-use crate::clauses::clause_read;
+use crate::clauses::clause_held;
 use crate::fields::count_at;
 use crate::selectors::selector_at;
 use bits::Field;
@@ -14,85 +10,57 @@ use bits::Place;
 use bits::code_of;
 use bits::field_at;
 ghost use mathlib.Core.Path.{_≡_};
-ghost use Prim.Native.Nat.{ℕ, _≤_};
+ghost use Prim.Native.Nat.{ℕ, _+_, _≤_};
 ghost use lib.ListN.{length};
-ghost use Rattle.bits.specs.Fields.{placeAt, codeOf};
+ghost use Rattle.bits.specs.Fields.{placeAt};
 ghost use Rattle.meaning.specs.Sheets.{Sheet};
 ghost use Rattle.meaning.specs.Reading.{times, clause, policy};
 ghost use Rattle.sheet.specs.Directory.{FactsAre, PolicyAt};
 ghost use Rattle.sheet.specs.Ends.{Ends};
-ghost use Rattle.sheet.specs.Fronts.{StartsAt, PoliciesAt};
-ghost use Rattle.sheet.specs.declared.End.the-variants as end;
+ghost use Rattle.sheet.specs.Fronts.{KeptBelow, StartsAt, PoliciesIn};
 
 // The bit number of a place in a sheet.
-fn bit_of(p: Place) -> usize
+fn bit_of(p: Place) -> u32
     ensures { λ r. ⌜ ((n : ℕ) → p ≡ placeAt n → n ≤ 131072 → r ≡ n) ⌝ }
 {
-    p.byte % 65536 * 8 + p.bit % 8
+    (p.byte % 65536 * 8 + p.bit % 8) as u32
 }
 
-// The places of `count` clauses.
-fn clauses_at(s: &[u8], at: Place, f: Facts, count: usize) -> Starts
-    requires { ⌜ count ≤ 8 ⌝ }
-    ensures { λ r. ⌜ ((facts : Sheet) (p : ℕ) → FactsAre facts f → length (now (s .entry)) ≤ 16384 → at ≡ placeAt p → Ends (times count (clause facts) (now (s .entry)) p) (StartsAt (now (s .entry)) facts (r .starts)) (r .end)) ⌝ }
+// The places of `count` clauses, put into the book from cell `from` on.
+fn clauses_at(s: &[u8], at: Place, f: Facts, count: usize, book: &mut [u32], from: usize) -> End
+    requires { ⌜ (count ≤ 8) × (from + 8 ≤ length (now book)) ⌝ }
+    ensures { λ r. ⌜ KeptBelow from (now (book .entry)) (now (book .exit)) × ((facts : Sheet) (p : ℕ) → FactsAre facts f → length (now (s .entry)) ≤ 16384 → at ≡ placeAt p → Ends (times count (clause facts) (now (s .entry)) p) (StartsAt (now (s .entry)) facts (now (book .exit)) from) r) ⌝ }
 {
-    let mut starts = [0usize; 8];
     let mut p = at;
     let mut i = 0;
     while i < count {
-        let got = clause_read(s, p, f);
+        let got = clause_held(s, p, f, 0);
         let end = got.end;
         let End::At(next) = end else {
-            return Starts {
-                end: end,
-                starts: starts,
-            };
+            return end;
         };
-        starts[i] = bit_of(p);
+        book[from + i] = bit_of(p);
         p = next;
         i += 1;
     }
-    Starts {
-        end: End::At(p),
-        starts: starts,
-    }
+    End::At(p)
 }
 
-fn no_policy(end: End) -> PolicyRead
-    ensures { λ r. ⌜ r .end ≡ end ⌝ }
-{
-    PolicyRead {
-        end: end,
-        policy: Policy {
-            restrictive: false,
-            commands: 0,
-            selector: 0,
-            count: 0,
-            clauses: [0usize; 8],
-        },
-    }
-}
-
-fn lost_policy(got: Field) -> PolicyRead
-    ensures { λ r. ⌜ r .end ≡ end.Refused (codeOf got) ⌝ }
-{
-    no_policy(End::Refused(code_of(got)))
-}
-
-// "each policy: type, commands", selector, clauses
-fn policy_at(s: &[u8], at: Place, f: Facts) -> PolicyRead
-    ensures { λ r. ⌜ ((facts : Sheet) (p : ℕ) → FactsAre facts f → length (now (s .entry)) ≤ 16384 → at ≡ placeAt p → Ends (policy facts (now (s .entry)) p) (λ x. PolicyAt (now (s .entry)) facts x (r .policy)) (r .end)) ⌝ }
+// "each policy: type, commands", selector, clauses; put into the book's twelve cells from `from` on.
+fn policy_at(s: &[u8], at: Place, f: Facts, book: &mut [u32], from: usize) -> End
+    requires { ⌜ from + 12 ≤ length (now book) ⌝ }
+    ensures { λ r. ⌜ KeptBelow from (now (book .entry)) (now (book .exit)) × ((facts : Sheet) (p : ℕ) → FactsAre facts f → length (now (s .entry)) ≤ 16384 → at ≡ placeAt p → Ends (policy facts (now (s .entry)) p) (λ x. PolicyAt (now (s .entry)) facts x (now (book .exit)) from) r) ⌝ }
 {
     let first = field_at(s, at, 1);
     let Field::Value(kind, p) = first else {
-        return lost_policy(first);
+        return End::Refused(code_of(first));
     };
     let second = field_at(s, p, 4);
     let Field::Value(commands, q) = second else {
-        return lost_policy(second);
+        return End::Refused(code_of(second));
     };
     if commands < 1 {
-        return no_policy(End::Refused(8));
+        return End::Refused(8);
     }
     let none = Table {
         schema: 0,
@@ -102,58 +70,33 @@ fn policy_at(s: &[u8], at: Place, f: Facts) -> PolicyRead
     let chosen = selector_at(s, q, 6, f.columns, f.tables, 0, none);
     let after = chosen.end;
     let End::At(u) = after else {
-        return no_policy(after);
+        return after;
     };
     let third = count_at(s, u, 4, 0, 8);
     let Field::Value(n, v) = third else {
-        return lost_policy(third);
+        return End::Refused(code_of(third));
     };
-    let cs = clauses_at(s, v, f, n as usize);
-    let end = cs.end;
-    let starts = cs.starts;
-    PolicyRead {
-        end: end,
-        policy: Policy {
-            restrictive: kind == 1,
-            commands: commands,
-            selector: bit_of(q),
-            count: n as usize,
-            clauses: starts,
-        },
-    }
+    book[from] = kind as u32;
+    book[from + 1] = commands as u32;
+    book[from + 2] = bit_of(q);
+    book[from + 3] = n as u32;
+    clauses_at(s, v, f, n as usize, book, from + 4)
 }
 
-// The fields of `count` policies.
-pub fn policies_at(s: &[u8], at: Place, f: Facts, count: usize) -> Policies
-    requires { ⌜ count ≤ 16 ⌝ }
-    ensures { λ r. ⌜ ((facts : Sheet) (p : ℕ) → FactsAre facts f → length (now (s .entry)) ≤ 16384 → at ≡ placeAt p → Ends (times count (policy facts) (now (s .entry)) p) (PoliciesAt (now (s .entry)) facts (r .policies)) (r .end)) ⌝ }
+// The fields of `count` policies, put into the book.
+pub fn policies_at(s: &[u8], at: Place, f: Facts, count: usize, book: &mut [u32]) -> End
+    requires { ⌜ (count ≤ 16) × (length (now book) ≡ 240) ⌝ }
+    ensures { λ r. ⌜ KeptBelow 48 (now (book .entry)) (now (book .exit)) × ((facts : Sheet) (p : ℕ) → FactsAre facts f → length (now (s .entry)) ≤ 16384 → at ≡ placeAt p → Ends (times count (policy facts) (now (s .entry)) p) (PoliciesIn (now (s .entry)) facts (now (book .exit))) r) ⌝ }
 {
-    let none = Policy {
-        restrictive: false,
-        commands: 0,
-        selector: 0,
-        count: 0,
-        clauses: [0usize; 8],
-    };
-    let mut policies = [none; 16];
     let mut p = at;
     let mut i = 0;
     while i < count {
-        let got = policy_at(s, p, f);
-        let end = got.end;
+        let end = policy_at(s, p, f, book, 48 + i * 12);
         let End::At(next) = end else {
-            return Policies {
-                end: end,
-                policies: policies,
-            };
+            return end;
         };
-        let x = got.policy;
-        policies[i] = x;
         p = next;
         i += 1;
     }
-    Policies {
-        end: End::At(p),
-        policies: policies,
-    }
+    End::At(p)
 }

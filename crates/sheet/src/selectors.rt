@@ -64,7 +64,7 @@ fn leaf_at(
         };
         return Chosen {
             end: End::At(q),
-            matched: is_member(16, table.columns, c),
+            matched: is_member(16, table.columns as u64, c),
         };
     }
     if node < 3 {
@@ -74,7 +74,7 @@ fn leaf_at(
         };
         return Chosen {
             end: End::At(q),
-            matched: table.schema == n,
+            matched: table.schema as u64 == n,
         };
     }
     if node < 4 {
@@ -93,7 +93,7 @@ fn leaf_at(
     };
     Chosen {
         end: End::At(q),
-        matched: is_member(8, table.tags, g),
+        matched: is_member(8, table.tags as u64, g),
     }
 }
 

@@ -3,9 +3,7 @@ use crate::Directory;
 use crate::End;
 use crate::Facts;
 use crate::Outcome;
-use crate::Policy;
 use crate::Reading;
-use crate::Table;
 use crate::opening::counts_at;
 use crate::opening::front_at;
 use crate::policy_fields::policies_at;
@@ -51,18 +49,6 @@ fn refused(why: End) -> Reading
         End::At(_) => 0,
         End::Refused(n) => n,
     };
-    let table = Table {
-        schema: 0,
-        tags: 0,
-        columns: 0,
-    };
-    let policy = Policy {
-        restrictive: false,
-        commands: 0,
-        selector: 0,
-        count: 0,
-        clauses: [0usize; 8],
-    };
     Reading {
         outcome: Outcome::Refused(number),
         directory: Directory {
@@ -73,64 +59,58 @@ fn refused(why: End) -> Reading
                 kinds: [0u8; 24],
             },
             policies: 0,
-            table: [table; 16],
-            policy: [policy; 16],
         },
     }
 }
 
 // Every field of a sheet, in order, and its end.
-fn fields_read(s: &[u8]) -> Reading
-    requires { ⌜ length (now s) ≤ 16384 ⌝ }
-    ensures { λ r. ⌜ FieldsRead (now (s .entry)) (r .directory) (r .outcome) ⌝ }
+fn fields_read(s: &[u8], book: &mut [u32]) -> Reading
+    requires { ⌜ (length (now s) ≤ 16384) × (length (now book) ≡ 240) ⌝ }
+    ensures { λ r. ⌜ FieldsRead (now (s .entry)) (r .directory) (now (book .exit)) (r .outcome) ⌝ }
 {
     let n = counts_at(s);
     let first = n.end;
     let End::At(p) = first else {
         return refused(first);
     };
-    let front = front_at(s, n, p);
+    let front = front_at(s, n, p, book);
     let second = front.end;
     let facts = front.facts;
     let End::At(q) = second else {
         return refused(second);
     };
     let count = n.policies;
-    let listed = policies_at(s, q, facts, count as usize);
-    let third = listed.end;
+    let third = policies_at(s, q, facts, count as usize, book);
     let End::At(u) = third else {
         return refused(third);
     };
     if closes(s, u) {
-        let table = front.tables;
-        let policy = listed.policies;
         return Reading {
             outcome: Outcome::Accepted,
             directory: Directory {
                 facts: facts,
                 policies: count,
-                table: table,
-                policy: policy,
             },
         };
     }
     refused(End::Refused(10))
 }
 
-// Reads a sheet: the directory of an accepted one, or the number by which it is refused.
-pub fn read_sheet(s: &[u8]) -> Reading
-    ensures { λ r. ⌜ SheetRead (now (s .entry)) r ⌝ }
+// Reads a sheet: the directory of an accepted one, whose tables and policies stand in the book then, or the number by which it is refused.
+pub fn read_sheet(s: &[u8], book: &mut [u32]) -> Reading
+    requires { ⌜ length (now book) ≡ 240 ⌝ }
+    ensures { λ r. ⌜ SheetRead (now (s .entry)) (now (book .exit)) r ⌝ }
 {
     if 16384 < s.len() {
         return refused(End::Refused(1));
     }
-    let got = fields_read(s);
+    let got = fields_read(s, book);
     let outcome = got.outcome;
     let Outcome::Accepted = outcome else {
         return got;
     };
     let d = got.directory;
-    if serves(s, d) {
+    if serves(s, d, book) {
         return got;
     }
     refused(End::Refused(11))

@@ -22,7 +22,7 @@ use Rattle.asked.specs.Words.{wordAtoms, seen}
 use Rattle.asked.specs.Asked.{Meets}
 use Rattle.verdicts.proofs.LayLaws.{branch-used}
 use Rattle.verdicts.specs.declared.Question.{Question}
-use Rattle.verdicts.specs.Questions.{Poses, LaidAt, OtherMeets, Marks, TellsBranch, TellsPair, TellsLeaking, branchAt, heldBy}
+use Rattle.verdicts.specs.Questions.{Poses, LaidAt, OtherMeets, Marks, TellsBranch, TellsPair, TellsLeaking, KeepsAtoms, branchAt, heldBy}
 
 module _ (sheet : Sheet) (t command : ℕ) where
   there : (k : ℕ) → k < branchCount sheet t command → k < length (branches sheet t command)
@@ -132,75 +132,75 @@ module _ (sheet : Sheet) (t command : ℕ) where
   quiet-all : (a b : ℕ) → Quiet a b → branchCount sheet t command ≤ a → IsIsolated sheet t command
   quiet-all a b q le = no-leak-isolated sheet t command (λ c d k. let n = counted c (k .a-there) in quiet-before a b c d q (omega arith) k)
 
-module _ (s : List ℕ) (d : Directory) (q : Question) where
+module _ (s : List ℕ) (d : Directory) (book : List ℕ) (q : Question) where
   -- how far `first_leak` has got
   pub record Searched (a b : ℕ) : Type 0 where
-    pub quiet : (sheet : Sheet) (t command : ℕ) → Poses s d q sheet t command → Quiet sheet t command a b
+    pub quiet : (sheet : Sheet) (t command : ℕ) → Poses s d book q sheet t command → Quiet sheet t command a b
 
   pub searched-starts : Searched 0 0
   searched-starts = record { quiet = λ sheet t command p. record { earlier = λ c e l g k. absurd (omega arith); here = λ e g l k. absurd (omega arith) } }
 
-  pub searched-next : (a b : ℕ) → Searched a b → ((sheet : Sheet) (t command : ℕ) → Poses s d q sheet t command → Leak sheet t command a b → ⊥) → Searched a (b + 1)
+  pub searched-next : (a b : ℕ) → Searched a b → ((sheet : Sheet) (t command : ℕ) → Poses s d book q sheet t command → Leak sheet t command a b → ⊥) → Searched a (b + 1)
   searched-next a b h ne = record { quiet = λ sheet t command p. quiet-next sheet t command a b (h .quiet sheet t command p) (ne sheet t command p) }
 
   pub searched-row : (a b : ℕ) → q .number ≤ b → Searched a b → Searched (a + 1) (a + 1)
   searched-row a b l h = record { quiet = λ sheet t command p. let e = p .number in quiet-row sheet t command a b (h .quiet sheet t command p) (omega arith) }
 
-  pub searched-none : (a b : ℕ) (r : Isolation) → r ≡ Isolated → q .number ≤ a → Searched a b → (sheet : Sheet) (t command : ℕ) → Poses s d q sheet t command → IsolationOf sheet t command r
+  pub searched-none : (a b : ℕ) (r : Isolation) → r ≡ Isolated → q .number ≤ a → Searched a b → (sheet : Sheet) (t command : ℕ) → Poses s d book q sheet t command → IsolationOf sheet t command r
   searched-none a b r e l h sheet t command p =
       subst (IsolationOf sheet t command) (sym e) (let n = p .number in quiet-all sheet t command a b (h .quiet sheet t command p) (omega arith))
 
-  pub searched-found : (a b : ℕ) (r : Isolation) → r ≡ Leaks a b → Searched a b → ((sheet : Sheet) (t command : ℕ) → Poses s d q sheet t command → Leak sheet t command a b) →
-      (sheet : Sheet) (t command : ℕ) → Poses s d q sheet t command → IsolationOf sheet t command r
+  pub searched-found : (a b : ℕ) (r : Isolation) → r ≡ Leaks a b → Searched a b → ((sheet : Sheet) (t command : ℕ) → Poses s d book q sheet t command → Leak sheet t command a b) →
+      (sheet : Sheet) (t command : ℕ) → Poses s d book q sheet t command → IsolationOf sheet t command r
   searched-found a b r e h k sheet t command p = subst (IsolationOf sheet t command) (sym e) (leak-first sheet t command a b (h .quiet sheet t command p) (k sheet t command p))
 
   -- how far `is_live` has got
   pub record Unmet (k : ℕ) : Type 0 where
-    pub unmet : (sheet : Sheet) (t command : ℕ) → Poses s d q sheet t command → (j : ℕ) → j < k → Meets (heldBy sheet t) sheet (branchAt sheet t command j) → ⊥
+    pub unmet : (sheet : Sheet) (t command : ℕ) → Poses s d book q sheet t command → (j : ℕ) → j < k → Meets (heldBy sheet t) sheet (branchAt sheet t command j) → ⊥
 
   pub unmet-starts : Unmet 0
   unmet-starts = record { unmet = λ sheet t command p j l m. absurd (omega arith) }
 
-  pub unmet-next : (k : ℕ) (r : Bool) → k < q .number → TellsBranch s d q k r → r ≡ false → Unmet k → Unmet (k + 1)
+  pub unmet-next : (k : ℕ) (r : Bool) → k < q .number → TellsBranch s d book q k r → r ≡ false → Unmet k → Unmet (k + 1)
   unmet-next k r i told f h = record { unmet = λ sheet t command p j l m. go sheet t command p j l m (ℕ-discrete j k) }
     where
-      go : (sheet : Sheet) (t command : ℕ) → Poses s d q sheet t command → (j : ℕ) → j < k + 1 → Meets (heldBy sheet t) sheet (branchAt sheet t command j) → Dec (j ≡ k) → ⊥
+      go : (sheet : Sheet) (t command : ℕ) → Poses s d book q sheet t command → (j : ℕ) → j < k + 1 → Meets (heldBy sheet t) sheet (branchAt sheet t command j) → Dec (j ≡ k) → ⊥
       go sheet t command p j l m (yes e) = let n = p .number in told .tells sheet t command p (omega arith) .no f (subst (λ z. Meets (heldBy sheet t) sheet (branchAt sheet t command z)) e m)
       go sheet t command p j l m (no e) = h .unmet sheet t command p j (omega arith) m
 
-  pub unmet-dead : (k : ℕ) → q .number ≤ k → Unmet k → (sheet : Sheet) (t command : ℕ) → Poses s d q sheet t command → Decides (IsLive sheet t command) false
+  pub unmet-dead : (k : ℕ) → q .number ≤ k → Unmet k → (sheet : Sheet) (t command : ℕ) → Poses s d book q sheet t command → Decides (IsLive sheet t command) false
   unmet-dead k l h sheet t command p =
       record { yes = λ e. absurd (true≢false (sym e)); no = λ e x. none-live sheet t command (λ j g m. let n = p .number in h .unmet sheet t command p j (omega arith) m) x }
 
-  pub met-live : (k : ℕ) (r : Bool) → k < q .number → TellsBranch s d q k r → r ≡ true →
-      (sheet : Sheet) (t command : ℕ) → Poses s d q sheet t command → Decides (IsLive sheet t command) true
+  pub met-live : (k : ℕ) (r : Bool) → k < q .number → TellsBranch s d book q k r → r ≡ true →
+      (sheet : Sheet) (t command : ℕ) → Poses s d book q sheet t command → Decides (IsLive sheet t command) true
   met-live k r l told e sheet t command p =
       let n = p .number in
       let g : k < branchCount sheet t command = omega arith in
       record { yes = λ x. live-by sheet t command k g (told .tells sheet t command p g .yes e); no = λ x. absurd (true≢false x) }
 
   -- the marks
-  pub marks-start : (marks : List ℕ) → marks ≡ replicate 256 1 → Marks s d q marks
+  pub marks-start : (marks : List ℕ) → marks ≡ replicate 256 1 → Marks s d book q marks
   marks-start marks e = record { unmet = λ sheet t command k p l g z m. let o : getD marks k 0 ≡ 1 = ap (λ xs. getD xs k 0) e ∙ getD-replicate 256 k 1 0 g in absurd (omega arith) }
 
   pub marks-next : (marks : List ℕ) (k x : ℕ) (r : Bool) → k < length marks → (x ≡ 0 → r ≡ false) →
-      TellsBranch s d q k r → Marks s d q marks → Marks s d q (set marks k x)
+      TellsBranch s d book q k r → Marks s d book q marks → Marks s d book q (set marks k x)
   marks-next marks k x r i zeroed told had = record { unmet = λ sheet t command j p l g z m. go sheet t command j p l g z m (ℕ-discrete j k) }
     where
-      go : (sheet : Sheet) (t command j : ℕ) → Poses s d q sheet t command → j < branchCount sheet t command → j < 256 → getD (set marks k x) j 0 ≡ 0 → Meets (heldBy sheet t) sheet (branchAt sheet t command j) → Dec (j ≡ k) → ⊥
+      go : (sheet : Sheet) (t command j : ℕ) → Poses s d book q sheet t command → j < branchCount sheet t command → j < 256 → getD (set marks k x) j 0 ≡ 0 → Meets (heldBy sheet t) sheet (branchAt sheet t command j) → Dec (j ≡ k) → ⊥
       go sheet t command j p l g z m (yes e) =
           let w : x ≡ 0 = sym (getD-set-same marks k x 0 i) ∙ ap (λ n. getD (set marks k x) n 0) (sym e) ∙ z in
           told .tells sheet t command p (subst (λ n. n < branchCount sheet t command) e l) .no (zeroed w) (subst (λ n. Meets (heldBy sheet t) sheet (branchAt sheet t command n)) e m)
       go sheet t command j p l g z m (no e) = had .unmet sheet t command j p l g (sym (getD-set-other marks k j x 0 e) ∙ z) m
 
   -- a pair with a branch that nobody meets does not leak
-  pub passed-first : (marks words : List ℕ) (n a b : ℕ) → a < 256 → getD marks a 0 ≡ 0 → TellsLeaking s d q marks words n a b false
+  pub passed-first : (marks words : List ℕ) (n a b : ℕ) → a < 256 → getD marks a 0 ≡ 0 → TellsLeaking s d book q marks words n a b false
   passed-first marks words n a b l z =
       record {
         tells = λ sheet t command p h la lb w. record { yes = λ e. absurd (true≢false (sym e)); no = λ e k. h .unmet sheet t command a p la l z (leak-met sheet t command a b k) };
       }
 
-  pub passed-second : (marks words : List ℕ) (n a b : ℕ) → b < 256 → getD marks b 0 ≡ 0 → TellsLeaking s d q marks words n a b false
+  pub passed-second : (marks words : List ℕ) (n a b : ℕ) → b < 256 → getD marks b 0 ≡ 0 → TellsLeaking s d book q marks words n a b false
   passed-second marks words n a b l z =
       record {
         tells = λ sheet t command p h la lb w.
@@ -208,20 +208,24 @@ module _ (s : List ℕ) (d : Directory) (q : Question) where
       }
 
   -- the answer on what is laid is the answer on the pair
-  pub leaking-told : (marks words : List ℕ) (n a b : ℕ) (r : Bool) → TellsPair s d q words n b r → TellsLeaking s d q marks words n a b r
+  pub leaking-told : (marks words : List ℕ) (n a b : ℕ) (r : Bool) → TellsPair s d book q words n b r → TellsLeaking s d book q marks words n a b r
   leaking-told marks words n a b r told =
       record {
         tells = λ sheet t command p h la lb w.
-            let x = told .tells sheet t command (branchAt sheet t command a) p w (branch-used s d q sheet t command p a la) lb in
+            let x = told .tells sheet t command (branchAt sheet t command a) p w (branch-used s d book q sheet t command p a la) lb in
             record { yes = λ e. both-leak sheet t command a b la lb (x .yes e); no = λ e k. x .no e (leak-both sheet t command a b k) };
       }
 
+  -- branch a stays laid while the branches b are laid behind it
+  pub stays-laid : (words after : List ℕ) (n a : ℕ) → KeepsAtoms s d book n words after → LaidAt s d book q a words n → LaidAt s d book q a after n
+  stays-laid words after n a h w = record { laid = λ sheet t command p l. h .kept sheet (p .read) ∙ w .laid sheet t command p l }
+
   -- the answer on a pair, within the search
-  pub pair-quiet : (marks words : List ℕ) (n a b : ℕ) (r : Bool) → a < q .number → b < q .number → Marks s d q marks → LaidAt s d q a words n → TellsLeaking s d q marks words n a b r → r ≡ false → Searched a b → Searched a (b + 1)
+  pub pair-quiet : (marks words : List ℕ) (n a b : ℕ) (r : Bool) → a < q .number → b < q .number → Marks s d book q marks → LaidAt s d book q a words n → TellsLeaking s d book q marks words n a b r → r ≡ false → Searched a b → Searched a (b + 1)
   pair-quiet marks words n a b r la lb m w told f h =
       searched-next a b h (λ sheet t command p k. let e = p .number in let i : a < branchCount sheet t command = omega arith in told .tells sheet t command p m i (omega arith) (w .laid sheet t command p i) .no f k)
 
-  pub pair-first : (marks words : List ℕ) (n a b : ℕ) (r : Bool) (found : Isolation) → a < q .number → b < q .number → Marks s d q marks → LaidAt s d q a words n → TellsLeaking s d q marks words n a b r → r ≡ true → found ≡ Leaks a b → Searched a b →
-      (sheet : Sheet) (t command : ℕ) → Poses s d q sheet t command → IsolationOf sheet t command found
+  pub pair-first : (marks words : List ℕ) (n a b : ℕ) (r : Bool) (found : Isolation) → a < q .number → b < q .number → Marks s d book q marks → LaidAt s d book q a words n → TellsLeaking s d book q marks words n a b r → r ≡ true → found ≡ Leaks a b → Searched a b →
+      (sheet : Sheet) (t command : ℕ) → Poses s d book q sheet t command → IsolationOf sheet t command found
   pair-first marks words n a b r found la lb m w told f e h =
       searched-found a b found e h (λ sheet t command p. let e = p .number in let i : a < branchCount sheet t command = omega arith in told .tells sheet t command p m i (omega arith) (w .laid sheet t command p i) .yes f)

@@ -27,8 +27,8 @@ abbrev pub heldBy : Sheet → ℕ → ℕ → Bool
 heldBy sheet t = holds (tableAt sheet t)
 
 -- the directory d and the question q are those of the sheet in s, its table t and the command
-pub record Poses (s : List ℕ) (d : Directory) (q : Question) (sheet : Sheet) (t command : ℕ) : Type 0 where
-  pub read : Read s d sheet
+pub record Poses (s : List ℕ) (d : Directory) (book : List ℕ) (q : Question) (sheet : Sheet) (t command : ℕ) : Type 0 where
+  pub read : Read s d book sheet
   pub there : t < length (sheet .tables)
   pub roles : RolesAre sheet t command (q .roles)
   pub counts : CountsAre sheet (q .counts)
@@ -36,34 +36,38 @@ pub record Poses (s : List ℕ) (d : Directory) (q : Question) (sheet : Sheet) (
   pub ranges : Ranges sheet (q .top)
 
 -- what is asked of the sheet in s stands, or is refused
-abbrev pub StandsAs : List ℕ → ℕ → ℕ → Directory → Question → Standing → Type 0
-StandsAs s t command d q Stands = (sheet : Sheet) × (askedTable s t command ≡ asks sheet) × Poses s d q sheet t command
-StandsAs s t command d q (Refused n) = askedTable s t command ≡ refuses n
+abbrev pub StandsAs : List ℕ → List ℕ → ℕ → ℕ → Directory → Question → Standing → Type 0
+StandsAs s book t command d q Stands = (sheet : Sheet) × (askedTable s t command ≡ asks sheet) × Poses s d book q sheet t command
+StandsAs s book t command d q (Refused n) = askedTable s t command ≡ refuses n
 
-abbrev pub PosedAs : List ℕ → ℕ → ℕ → Posed → Type 0
-PosedAs s t command r = StandsAs s t command (r .directory) (r .question) (r .standing)
+abbrev pub PosedAs : List ℕ → List ℕ → ℕ → ℕ → Posed → Type 0
+PosedAs s book t command r = StandsAs s book t command (r .directory) (r .question) (r .standing)
 
 -- the answer says whether branch k is met by some row of the table and session
-pub record TellsBranch (s : List ℕ) (d : Directory) (q : Question) (k : ℕ) (r : Bool) : Type 0 where
-  pub tells : (sheet : Sheet) (t command : ℕ) → Poses s d q sheet t command → k < branchCount sheet t command → Decides (Meets (heldBy sheet t) sheet (branchAt sheet t command k)) r
+pub record TellsBranch (s : List ℕ) (d : Directory) (book : List ℕ) (q : Question) (k : ℕ) (r : Bool) : Type 0 where
+  pub tells : (sheet : Sheet) (t command : ℕ) → Poses s d book q sheet t command → k < branchCount sheet t command → Decides (Meets (heldBy sheet t) sheet (branchAt sheet t command k)) r
 
 -- "some row meets a with one session and b with a session of another tenant", for branch b and the laid clause a
 abbrev pub OtherMeets : Sheet → ℕ → Clause → Clause → Type 0
 OtherMeets sheet t a b = Both (heldBy sheet t) sheet a b (λ m. m 16 ≡ m 24 → ⊥)
 
-pub record TellsPair (s : List ℕ) (d : Directory) (q : Question) (words : List ℕ) (n b : ℕ) (r : Bool) : Type 0 where
-  pub tells : (sheet : Sheet) (t command : ℕ) (c : Clause) → Poses s d q sheet t command → wordAtoms words n ≡ map (seen false) c → Uses (heldBy sheet t) sheet c → b < branchCount sheet t command →
+pub record TellsPair (s : List ℕ) (d : Directory) (book : List ℕ) (q : Question) (words : List ℕ) (n b : ℕ) (r : Bool) : Type 0 where
+  pub tells : (sheet : Sheet) (t command : ℕ) (c : Clause) → Poses s d book q sheet t command → wordAtoms words n ≡ map (seen false) c → Uses (heldBy sheet t) sheet c → b < branchCount sheet t command →
       Decides (OtherMeets sheet t c (branchAt sheet t command b)) r
 
+-- the first n atoms of the words stay as they were
+pub record KeepsAtoms (s : List ℕ) (d : Directory) (book : List ℕ) (n : ℕ) (words after : List ℕ) : Type 0 where
+  pub kept : (sheet : Sheet) → Read s d book sheet → wordAtoms after n ≡ wordAtoms words n
+
 -- a branch marked 0 is met by nobody
-pub record Marks (s : List ℕ) (d : Directory) (q : Question) (marks : List ℕ) : Type 0 where
-  pub unmet : (sheet : Sheet) (t command k : ℕ) → Poses s d q sheet t command → k < branchCount sheet t command → k < 256 → getD marks k 0 ≡ 0 → Meets (heldBy sheet t) sheet (branchAt sheet t command k) → ⊥
+pub record Marks (s : List ℕ) (d : Directory) (book : List ℕ) (q : Question) (marks : List ℕ) : Type 0 where
+  pub unmet : (sheet : Sheet) (t command k : ℕ) → Poses s d book q sheet t command → k < branchCount sheet t command → k < 256 → getD marks k 0 ≡ 0 → Meets (heldBy sheet t) sheet (branchAt sheet t command k) → ⊥
 
 -- the answer says whether branches a, laid in the words, and b leak
-pub record TellsLeaking (s : List ℕ) (d : Directory) (q : Question) (marks words : List ℕ) (n a b : ℕ) (r : Bool) : Type 0 where
-  pub tells : (sheet : Sheet) (t command : ℕ) → Poses s d q sheet t command → Marks s d q marks → a < branchCount sheet t command → b < branchCount sheet t command →
+pub record TellsLeaking (s : List ℕ) (d : Directory) (book : List ℕ) (q : Question) (marks words : List ℕ) (n a b : ℕ) (r : Bool) : Type 0 where
+  pub tells : (sheet : Sheet) (t command : ℕ) → Poses s d book q sheet t command → Marks s d book q marks → a < branchCount sheet t command → b < branchCount sheet t command →
       wordAtoms words n ≡ map (seen false) (branchAt sheet t command a) → Decides (Leak sheet t command a b) r
 
 -- branch k is laid in the words, as their first n atoms
-pub record LaidAt (s : List ℕ) (d : Directory) (q : Question) (k : ℕ) (words : List ℕ) (n : ℕ) : Type 0 where
-  pub laid : (sheet : Sheet) (t command : ℕ) → Poses s d q sheet t command → k < branchCount sheet t command → wordAtoms words n ≡ map (seen false) (branchAt sheet t command k)
+pub record LaidAt (s : List ℕ) (d : Directory) (book : List ℕ) (q : Question) (k : ℕ) (words : List ℕ) (n : ℕ) : Type 0 where
+  pub laid : (sheet : Sheet) (t command : ℕ) → Poses s d book q sheet t command → k < branchCount sheet t command → wordAtoms words n ≡ map (seen false) (branchAt sheet t command k)

@@ -15,7 +15,7 @@ ghost use Rattle.meaning.specs.Replies.{IsolationOf};
 ghost use Rattle.branches.specs.Parts.{clausesOf, conjunction};
 ghost use Rattle.asked.specs.Words.{wordAtoms, seen};
 ghost use Rattle.covering.specs.Covering.{Read};
-ghost use Rattle.verdicts.specs.Questions.{Poses, LaidAt, TellsBranch, TellsPair, TellsLeaking, Marks};
+ghost use Rattle.verdicts.specs.Questions.{Poses, LaidAt, TellsBranch, TellsPair, TellsLeaking, KeepsAtoms, Marks};
 
 pub mod replies;
 
@@ -51,6 +51,7 @@ pub struct Posed {
 fn lay_clause(
     s: &[u8],
     d: Directory,
+    book: &[u32],
     p: usize,
     k: u64,
     words: &mut [u64],
@@ -59,11 +60,10 @@ fn lay_clause(
 ) -> usize
     requires { ⌜ (p < 16) × (n * 11 + 88 ≤ length (now words)) ⌝ }
     ensures count { λ r. ⌜ r ≤ n + 8 ⌝ }
-    ensures atoms { λ r. ⌜ ((sheet : Sheet) → Read (now (s .entry)) d sheet → wordAtoms (now (words .exit)) r ≡ wordAtoms (now (words .entry)) n ++ map (seen second) (getD (clausesOf sheet p) k [])) ⌝ }
+    ensures atoms { λ r. ⌜ ((sheet : Sheet) → Read (now (s .entry)) d (now (book .entry)) sheet → wordAtoms (now (words .exit)) r ≡ wordAtoms (now (words .entry)) n ++ map (seen second) (getD (clausesOf sheet p) k [])) ⌝ }
 {
     let policies = d.policies;
-    let policy = d.policy[p];
-    let count = policy.count;
+    let count = sheet::entries::count_of(book, p);
     if policies <= p as u64 {
         return n;
     }
@@ -73,61 +73,69 @@ fn lay_clause(
     if 8 <= k {
         return n;
     }
-    let c = covering::clause_of(s, d, p, k as usize);
+    let c = covering::clause_of(s, d, book, p, k as usize);
     asked::lay(words, n, c, second)
 }
 
 // The clauses of a branch are laid behind n atoms of the words, for the first session or the second.
-fn lay_branch(s: &[u8], d: Directory, b: Branch, words: &mut [u64], n: usize, second: bool) -> usize
+fn lay_branch(
+    s: &[u8],
+    d: Directory,
+    book: &[u32],
+    b: Branch,
+    words: &mut [u64],
+    n: usize,
+    second: bool,
+) -> usize
     requires { ⌜ (b .policy < 16) × (n * 11 + 1408 ≤ length (now words)) ⌝ }
     ensures count { λ r. ⌜ r ≤ n + 128 ⌝ }
-    ensures atoms { λ r. ⌜ ((sheet : Sheet) → Read (now (s .entry)) d sheet → wordAtoms (now (words .exit)) r ≡ wordAtoms (now (words .entry)) n ++ map (seen second) (conjunction (clausesOf sheet) b)) ⌝ }
+    ensures atoms { λ r. ⌜ ((sheet : Sheet) → Read (now (s .entry)) d (now (book .entry)) sheet → wordAtoms (now (words .exit)) r ≡ wordAtoms (now (words .entry)) n ++ map (seen second) (conjunction (clausesOf sheet) b)) ⌝ }
 {
     let q = b.policy;
     let slots = b.slots;
-    let mut m = lay_clause(s, d, q, slots[q], words, n, second);
+    let mut m = lay_clause(s, d, book, q, slots[q], words, n, second);
     let mut p = 0;
     while p < 16 {
         if p == q {
             p += 1;
             continue;
         }
-        m = lay_clause(s, d, p, slots[p], words, m, second);
+        m = lay_clause(s, d, book, p, slots[p], words, m, second);
         p += 1;
     }
     m
 }
 
 // Branch k is laid for the first session.
-fn lay_at(s: &[u8], d: Directory, q: Question, k: u64, words: &mut [u64]) -> usize
+fn lay_at(s: &[u8], d: Directory, book: &[u32], q: Question, k: u64, words: &mut [u64]) -> usize
     requires { ⌜ 1408 ≤ length (now words) ⌝ }
     ensures count { λ r. ⌜ r ≤ 128 ⌝ }
-    ensures atoms { λ r. ⌜ LaidAt (now (s .entry)) d q k (now (words .exit)) r ⌝ }
+    ensures atoms { λ r. ⌜ LaidAt (now (s .entry)) d (now (book .entry)) q k (now (words .exit)) r ⌝ }
 {
     let roles = q.roles;
     let counts = q.counts;
     let b = branches::pick(roles, counts, k);
-    lay_branch(s, d, b, words, 0, false)
+    lay_branch(s, d, book, b, words, 0, false)
 }
 
 // Does some row of the table and session meet branch k?
-fn branch_met(s: &[u8], d: Directory, q: Question, k: u64) -> bool
-    ensures { λ r. ⌜ TellsBranch (now (s .entry)) d q k r ⌝ }
+fn branch_met(s: &[u8], d: Directory, book: &[u32], q: Question, k: u64) -> bool
+    ensures { λ r. ⌜ TellsBranch (now (s .entry)) d (now (book .entry)) q k r ⌝ }
 {
     let top = q.top;
     let mut words = [0u64; 1408];
-    let n = lay_at(s, d, q, k, &mut words);
+    let n = lay_at(s, d, book, q, k, &mut words);
     asked::meets(&words, n, top)
 }
 
 // "Dead: no row and session is admitted": is the table live?
-fn is_live(s: &[u8], d: Directory, q: Question) -> bool
-    ensures { λ r. ⌜ ((sheet : Sheet) (t command : ℕ) → Poses (now (s .entry)) d q sheet t command → Decides (IsLive sheet t command) r) ⌝ }
+fn is_live(s: &[u8], d: Directory, book: &[u32], q: Question) -> bool
+    ensures { λ r. ⌜ ((sheet : Sheet) (t command : ℕ) → Poses (now (s .entry)) d (now (book .entry)) q sheet t command → Decides (IsLive sheet t command) r) ⌝ }
 {
     let n = q.number;
     let mut k: u64 = 0;
     while k < n {
-        if branch_met(s, d, q, k) {
+        if branch_met(s, d, book, q, k) {
             return true;
         }
         k += 1;
@@ -145,8 +153,8 @@ fn mark(met: bool) -> u8
 }
 
 // The branches that nobody meets are marked 0.
-fn marked(s: &[u8], d: Directory, q: Question) -> [u8; 256]
-    ensures { λ r. ⌜ Marks (now (s .entry)) d q r ⌝ }
+fn marked(s: &[u8], d: Directory, book: &[u32], q: Question) -> [u8; 256]
+    ensures { λ r. ⌜ Marks (now (s .entry)) d (now (book .entry)) q r ⌝ }
 {
     let n = q.number;
     let mut marks = [1u8; 256];
@@ -155,39 +163,49 @@ fn marked(s: &[u8], d: Directory, q: Question) -> [u8; 256]
         if n <= k as u64 {
             return marks;
         }
-        marks[k] = mark(branch_met(s, d, q, k as u64));
+        marks[k] = mark(branch_met(s, d, book, q, k as u64));
         k += 1;
     }
     marks
 }
 
-// Does some row meet the n laid atoms with one session, and branch b with a session of another tenant?
-fn pair_leaks(s: &[u8], d: Directory, q: Question, words: [u64; 2838], n: usize, b: u64) -> bool
-    requires { ⌜ n ≤ 128 ⌝ }
-    ensures { λ r. ⌜ TellsPair (now (s .entry)) d q words n b r ⌝ }
+// Does some row meet the n laid atoms with one session, and branch b, which is laid behind them, with a session of another tenant?
+fn pair_leaks(
+    s: &[u8],
+    d: Directory,
+    book: &[u32],
+    q: Question,
+    words: &mut [u64],
+    n: usize,
+    b: u64,
+) -> bool
+    requires { ⌜ (n ≤ 128) × (2816 ≤ length (now words)) ⌝ }
+    ensures told { λ r. ⌜ TellsPair (now (s .entry)) d (now (book .entry)) q (now (words .entry)) n b r ⌝ }
+    ensures kept { λ r. ⌜ KeepsAtoms (now (s .entry)) d (now (book .entry)) n (now (words .entry)) (now (words .exit)) ⌝ }
 {
     let roles = q.roles;
     let counts = q.counts;
     let top = q.top;
     let c = branches::pick(roles, counts, b);
-    let mut both = words;
-    let m = lay_branch(s, d, c, &mut both, n, true);
-    asked::leaks(&both, m, top)
+    let m = lay_branch(s, d, book, c, words, n, true);
+    asked::leaks(words, m, top)
 }
 
 // Does the pair of branch a, whose n atoms are laid, and branch b leak? Branches that nobody meets are passed over.
 fn leaks_at(
     s: &[u8],
     d: Directory,
+    book: &[u32],
     q: Question,
-    marks: [u8; 256],
-    words: [u64; 2838],
+    marks: &[u8; 256],
+    words: &mut [u64],
     n: usize,
     a: usize,
     b: usize,
 ) -> bool
-    requires { ⌜ (n ≤ 128) × (a < 256) × (b < 256) ⌝ }
-    ensures { λ r. ⌜ TellsLeaking (now (s .entry)) d q marks words n a b r ⌝ }
+    requires { ⌜ (n ≤ 128) × (2816 ≤ length (now words)) × (a < 256) × (b < 256) ⌝ }
+    ensures told { λ r. ⌜ TellsLeaking (now (s .entry)) d (now (book .entry)) q (now (marks .entry)) (now (words .entry)) n a b r ⌝ }
+    ensures kept { λ r. ⌜ KeepsAtoms (now (s .entry)) d (now (book .entry)) n (now (words .entry)) (now (words .exit)) ⌝ }
 {
     if marks[a] == 0 {
         return false;
@@ -195,25 +213,24 @@ fn leaks_at(
     if marks[b] == 0 {
         return false;
     }
-    pair_leaks(s, d, q, words, n, b as u64)
+    pair_leaks(s, d, book, q, words, n, b as u64)
 }
 
 // "A leak is named by the first pair (a, b), a before b in importance": nested search, left from inside at the first leaking pair. Leaking is
-// symmetric, so that pairs with a at most b are enough; what belongs to a alone is laid once.
-fn first_leak(s: &[u8], d: Directory, q: Question) -> Isolation
-    requires { ⌜ q .number ≤ 256 ⌝ }
-    ensures { λ r. ⌜ ((sheet : Sheet) (t command : ℕ) → Poses (now (s .entry)) d q sheet t command → IsolationOf sheet t command r) ⌝ }
+// symmetric, so that pairs with a at most b are enough; branch a is laid once, and each b behind it over the one before.
+fn first_pair(s: &[u8], d: Directory, book: &[u32], q: Question, marks: &[u8; 256]) -> Isolation
+    requires { ⌜ (q .number ≤ 256) × Marks (now s) d (now book) q (now marks) ⌝ }
+    ensures { λ r. ⌜ ((sheet : Sheet) (t command : ℕ) → Poses (now (s .entry)) d (now (book .entry)) q sheet t command → IsolationOf sheet t command r) ⌝ }
 {
     let n = q.number as usize;
-    let marks = marked(s, d, q);
+    let mut words = [0u64; 2816];
     let mut found = Isolation::Isolated;
     let mut a: usize = 0;
     'search: while a < n {
-        let mut words = [0u64; 2838];
-        let laid = lay_at(s, d, q, a as u64, &mut words);
+        let laid = lay_at(s, d, book, q, a as u64, &mut words);
         let mut b = a;
         while b < n {
-            if leaks_at(s, d, q, marks, words, laid, a, b) {
+            if leaks_at(s, d, book, q, marks, &mut words, laid, a, b) {
                 found = Isolation::Leaks(a as u32, b as u32);
                 break 'search;
             }
@@ -222,4 +239,13 @@ fn first_leak(s: &[u8], d: Directory, q: Question) -> Isolation
         a += 1;
     }
     found
+}
+
+// The branches are marked before the pairs are laid, so that the words of the one are gone when those of the other are needed.
+fn first_leak(s: &[u8], d: Directory, book: &[u32], q: Question) -> Isolation
+    requires { ⌜ q .number ≤ 256 ⌝ }
+    ensures { λ r. ⌜ ((sheet : Sheet) (t command : ℕ) → Poses (now (s .entry)) d (now (book .entry)) q sheet t command → IsolationOf sheet t command r) ⌝ }
+{
+    let marks = marked(s, d, book, q);
+    first_pair(s, d, book, q, &marks)
 }

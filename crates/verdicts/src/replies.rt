@@ -30,11 +30,11 @@ fn nothing() -> Question {
 }
 
 // What a table and command ask of the sheet that the directory describes.
-fn question_of(s: &[u8], d: Directory, t: usize, command: u64) -> Question
-    ensures { λ r. ⌜ Posing (now (s .entry)) d t command r ⌝ }
+fn question_of(s: &[u8], d: Directory, book: &[u32], t: usize, command: u64) -> Question
+    ensures { λ r. ⌜ Posing (now (s .entry)) d (now (book .entry)) t command r ⌝ }
 {
-    let roles = branches::roles(s, d, t, command);
-    let counts = branches::counts(d);
+    let roles = branches::roles(s, d, book, t, command);
+    let counts = branches::counts(d, book);
     let number = branches::count(roles, counts);
     let facts = d.facts;
     let kinds = facts.kinds;
@@ -48,8 +48,8 @@ fn question_of(s: &[u8], d: Directory, t: usize, command: u64) -> Question
 }
 
 // 12, "table .. number asked not there, or command over 3", of an accepted sheet
-fn table_of(s: &[u8], d: Directory, table: u32, command: u32) -> Posed
-    ensures { λ r. ⌜ (Accepts (now (s .entry)) d → PosedAs (now (s .entry)) table command r) ⌝ }
+fn table_of(s: &[u8], d: Directory, book: &[u32], table: u32, command: u32) -> Posed
+    ensures { λ r. ⌜ (Accepts (now (s .entry)) d (now (book .entry)) → PosedAs (now (s .entry)) (now (book .entry)) table command r) ⌝ }
 {
     let facts = d.facts;
     let tables = facts.tables;
@@ -67,7 +67,7 @@ fn table_of(s: &[u8], d: Directory, table: u32, command: u32) -> Posed
             question: nothing(),
         };
     }
-    let q = question_of(s, d, table as usize, command as u64);
+    let q = question_of(s, d, book, table as usize, command as u64);
     Posed {
         standing: Standing::Stands,
         directory: d,
@@ -76,8 +76,8 @@ fn table_of(s: &[u8], d: Directory, table: u32, command: u32) -> Posed
 }
 
 // What is asked of the sheet as it was read: 1 to 11 first.
-fn posed(s: &[u8], read: Reading, table: u32, command: u32) -> Posed
-    ensures { λ r. ⌜ (SheetRead (now (s .entry)) read → PosedAs (now (s .entry)) table command r) ⌝ }
+fn posed(s: &[u8], read: Reading, book: &[u32], table: u32, command: u32) -> Posed
+    ensures { λ r. ⌜ (SheetRead (now (s .entry)) (now (book .entry)) read → PosedAs (now (s .entry)) (now (book .entry)) table command r) ⌝ }
 {
     let d = read.directory;
     let outcome = read.outcome;
@@ -87,62 +87,62 @@ fn posed(s: &[u8], read: Reading, table: u32, command: u32) -> Posed
             directory: d,
             question: nothing(),
         },
-        Outcome::Accepted => table_of(s, d, table, command),
+        Outcome::Accepted => table_of(s, d, book, table, command),
     }
 }
 
 // 13, "N over 256 (dead and isolated only)"
 const MOST: u64 = 256;
 
-fn life_of(s: &[u8], d: Directory, q: Question) -> Life
-    ensures { λ r. ⌜ LifeTold (now (s .entry)) d q r ⌝ }
+fn life_of(s: &[u8], d: Directory, book: &[u32], q: Question) -> Life
+    ensures { λ r. ⌜ LifeTold (now (s .entry)) d (now (book .entry)) q r ⌝ }
 {
     let n = q.number;
     if MOST < n {
         return Life::Refused(13);
     }
-    if is_live(s, d, q) {
+    if is_live(s, d, book, q) {
         return Life::Live;
     }
     Life::Dead
 }
 
-fn isolation_of(s: &[u8], d: Directory, q: Question) -> Isolation
-    ensures { λ r. ⌜ IsolationTold (now (s .entry)) d q r ⌝ }
+fn isolation_of(s: &[u8], d: Directory, book: &[u32], q: Question) -> Isolation
+    ensures { λ r. ⌜ IsolationTold (now (s .entry)) d (now (book .entry)) q r ⌝ }
 {
     let n = q.number;
     if MOST < n {
         return Isolation::Refused(13);
     }
-    first_leak(s, d, q)
+    first_leak(s, d, book, q)
 }
 
-fn dead_of(s: &[u8], p: Posed) -> Life
-    ensures { λ r. ⌜ ((t command : ℕ) → PosedAs (now (s .entry)) t command p → DeadReply (now (s .entry)) t command r) ⌝ }
+fn dead_of(s: &[u8], p: Posed, book: &[u32]) -> Life
+    ensures { λ r. ⌜ ((t command : ℕ) → PosedAs (now (s .entry)) (now (book .entry)) t command p → DeadReply (now (s .entry)) t command r) ⌝ }
 {
     let d = p.directory;
     let q = p.question;
     let standing = p.standing;
     match standing {
         Standing::Refused(n) => Life::Refused(n),
-        Standing::Stands => life_of(s, d, q),
+        Standing::Stands => life_of(s, d, book, q),
     }
 }
 
-fn isolated_of(s: &[u8], p: Posed) -> Isolation
-    ensures { λ r. ⌜ ((t command : ℕ) → PosedAs (now (s .entry)) t command p → IsolatedReply (now (s .entry)) t command r) ⌝ }
+fn isolated_of(s: &[u8], p: Posed, book: &[u32]) -> Isolation
+    ensures { λ r. ⌜ ((t command : ℕ) → PosedAs (now (s .entry)) (now (book .entry)) t command p → IsolatedReply (now (s .entry)) t command r) ⌝ }
 {
     let d = p.directory;
     let q = p.question;
     let standing = p.standing;
     match standing {
         Standing::Refused(n) => Isolation::Refused(n),
-        Standing::Stands => isolation_of(s, d, q),
+        Standing::Stands => isolation_of(s, d, book, q),
     }
 }
 
-fn count_of(s: &[u8], p: Posed) -> BranchCount
-    ensures { λ r. ⌜ ((t command : ℕ) → PosedAs (now (s .entry)) t command p → BranchesReply (now (s .entry)) t command r) ⌝ }
+fn count_of(s: &[u8], p: Posed, book: &[u32]) -> BranchCount
+    ensures { λ r. ⌜ ((t command : ℕ) → PosedAs (now (s .entry)) (now (book .entry)) t command p → BranchesReply (now (s .entry)) t command r) ⌝ }
 {
     let q = p.question;
     let n = q.number;
@@ -168,8 +168,8 @@ fn is_policy(policies: u64, a: u32) -> bool
 }
 
 // 12, "policy number asked not there", of an accepted sheet
-fn cover_at(s: &[u8], d: Directory, a: u32, b: u32) -> Cover
-    ensures { λ r. ⌜ (Accepts (now (s .entry)) d → CoversReply (now (s .entry)) a b r) ⌝ }
+fn cover_at(s: &[u8], d: Directory, book: &[u32], a: u32, b: u32) -> Cover
+    ensures { λ r. ⌜ (Accepts (now (s .entry)) d (now (book .entry)) → CoversReply (now (s .entry)) a b r) ⌝ }
 {
     let policies = d.policies;
     if is_policy(policies, a) {
@@ -177,7 +177,7 @@ fn cover_at(s: &[u8], d: Directory, a: u32, b: u32) -> Cover
             let facts = d.facts;
             let kinds = facts.kinds;
             let top = asked::tops(kinds);
-            if covering::policy_covers(s, d, a as usize, b as usize, top) {
+            if covering::policy_covers(s, d, book, a as usize, b as usize, top) {
                 return Cover::Covers;
             }
             return Cover::Misses;
@@ -187,37 +187,37 @@ fn cover_at(s: &[u8], d: Directory, a: u32, b: u32) -> Cover
     Cover::Refused(12)
 }
 
-pub fn covers(s: &[u8], read: Reading, a: u32, b: u32) -> Cover
-    ensures { λ r. ⌜ (SheetRead (now (s .entry)) read → CoversReply (now (s .entry)) a b r) ⌝ }
+pub fn covers(s: &[u8], read: Reading, book: &[u32], a: u32, b: u32) -> Cover
+    ensures { λ r. ⌜ (SheetRead (now (s .entry)) (now (book .entry)) read → CoversReply (now (s .entry)) a b r) ⌝ }
 {
     let d = read.directory;
     let outcome = read.outcome;
     match outcome {
         Outcome::Refused(n) => Cover::Refused(n),
-        Outcome::Accepted => cover_at(s, d, a, b),
+        Outcome::Accepted => cover_at(s, d, book, a, b),
     }
 }
 
 // "Dead: no row and session is admitted." The sheet's reading comes in beside its bytes.
-pub fn dead(s: &[u8], read: Reading, table: u32, command: u32) -> Life
-    ensures { λ r. ⌜ (SheetRead (now (s .entry)) read → DeadReply (now (s .entry)) table command r) ⌝ }
+pub fn dead(s: &[u8], read: Reading, book: &[u32], table: u32, command: u32) -> Life
+    ensures { λ r. ⌜ (SheetRead (now (s .entry)) (now (book .entry)) read → DeadReply (now (s .entry)) table command r) ⌝ }
 {
-    let p = posed(s, read, table, command);
-    dead_of(s, p)
+    let p = posed(s, read, book, table, command);
+    dead_of(s, p, book)
 }
 
 // "isolated for a command exactly when no row is admitted for two sessions of different tenants", or the first leaking pair.
-pub fn isolated(s: &[u8], read: Reading, table: u32, command: u32) -> Isolation
-    ensures { λ r. ⌜ (SheetRead (now (s .entry)) read → IsolatedReply (now (s .entry)) table command r) ⌝ }
+pub fn isolated(s: &[u8], read: Reading, book: &[u32], table: u32, command: u32) -> Isolation
+    ensures { λ r. ⌜ (SheetRead (now (s .entry)) (now (book .entry)) read → IsolatedReply (now (s .entry)) table command r) ⌝ }
 {
-    let p = posed(s, read, table, command);
-    isolated_of(s, p)
+    let p = posed(s, read, book, table, command);
+    isolated_of(s, p, book)
 }
 
 // N, at any size.
-pub fn branch_count(s: &[u8], read: Reading, table: u32, command: u32) -> BranchCount
-    ensures { λ r. ⌜ (SheetRead (now (s .entry)) read → BranchesReply (now (s .entry)) table command r) ⌝ }
+pub fn branch_count(s: &[u8], read: Reading, book: &[u32], table: u32, command: u32) -> BranchCount
+    ensures { λ r. ⌜ (SheetRead (now (s .entry)) (now (book .entry)) read → BranchesReply (now (s .entry)) table command r) ⌝ }
 {
-    let p = posed(s, read, table, command);
-    count_of(s, p)
+    let p = posed(s, read, book, table, command);
+    count_of(s, p, book)
 }

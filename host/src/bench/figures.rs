@@ -8,11 +8,12 @@ pub fn cell(timing: Option<Timing>) -> String {
     timing.map_or_else(|| "-".to_string(), |timing| timing.to_string())
 }
 
+pub fn times_as(ratio: Option<f64>) -> String {
+    ratio.map_or_else(|| "-".to_string(), |ratio| format!("{ratio:.1}"))
+}
+
 pub fn ratio(one: Option<f64>, other: Option<f64>) -> String {
-    match (one, other) {
-        (Some(one), Some(other)) => format!("{:.1}", one / other),
-        _ => "-".to_string(),
-    }
+    times_as(one.zip(other).map(|(one, other)| one / other))
 }
 
 /// Times the call by the library, where it exports it.

@@ -1,12 +1,12 @@
 //! Listing: rows a second, beside plain Rust and PostgreSQL filtering the same rows by the same
 //! policies (the server's own execution time, warm, nothing sent to a client).
 
-use super::figures::{by_library, cell, ratio};
+use super::figures::{cell, times_as};
 use super::plot::Series;
 use super::report::Report;
 use super::sheets;
-use super::time::{time, Effort, Timing};
-use crate::library;
+use super::time::{once, Effort, Rounds, Timing};
+use crate::library::{self, exports};
 use crate::postgres::{server, server::Server, sql};
 use crate::reading::sheet::{Content, Sheet};
 use crate::reading::{calls, pack};
@@ -27,41 +27,45 @@ pub fn rows(count: usize) -> Rows {
     }
 }
 
-/// Execution times that the server gives for reading each table as a plain session of house 1.
-fn by_postgres(sheets: &[(&str, Sheet)], counts: &[usize], runs: usize) -> Result<Vec<Vec<Timing>>, String> {
-    let server = Server::start()?;
-    let mut script = "create role plain;\nset jit = off;\n".to_string();
-    for (s, (_, sheet)) in sheets.iter().enumerate() {
-        for &count in counts {
-            let name = format!("t{s}_{count}");
-            script += &sql::create_table(sheet, 0, &name);
-            script += &sql::insert_rows(sheet, 0, &name, &rows(count).contents);
-            script += &format!("analyze {name};\n");
-        }
-    }
-    script += &sql::set_keys(&sheets[0].1, &[Some(1), Some(1)]);
-    script += "set role plain;\n";
-    for (s, _) in sheets.iter().enumerate() {
-        for count in counts {
-            for _ in 0..runs + 2 {
-                script += &format!("explain (analyze, timing off, costs off) select c0, c1, c2 from t{s}_{count};\n");
+/// A server that has each sheet's table with each number of rows.
+struct Filtering {
+    server: Server,
+    session: String,
+}
+
+impl Filtering {
+    fn start(sheets: &[(&str, Sheet)], counts: &[usize]) -> Result<Filtering, String> {
+        let server = Server::start()?;
+        let mut script = "create role plain;\n".to_string();
+        for (s, (_, sheet)) in sheets.iter().enumerate() {
+            for &count in counts {
+                let name = format!("t{s}_{count}");
+                script += &sql::create_table(sheet, 0, &name);
+                script += &sql::insert_rows(sheet, 0, &name, &rows(count).contents);
+                script += &format!("analyze {name};\n");
             }
         }
+        server.run(&script)?;
+        let keys = sql::set_keys(&sheets[0].1, &[Some(1), Some(1)]);
+        Ok(Filtering { server, session: format!("set jit = off;\n{keys}set role plain;\n") })
     }
-    let printed = server.run(&script)?;
-    let milliseconds = |line: &str| line.strip_prefix("Execution Time: ")?.strip_suffix(" ms")?.parse::<f64>().ok();
-    let times: Vec<f64> = printed.lines().filter_map(milliseconds).map(|time| time / 1e3).collect();
-    let each: Vec<Timing> = times.chunks(runs + 2).map(|warm| Timing::of(warm[2..].to_vec())).collect();
-    Ok(each.chunks(counts.len()).map(<[Timing]>::to_vec).collect())
+
+    /// The server's own execution time, warm, for reading a table as a plain session of house 1.
+    fn once(&self, sheet: usize, count: usize) -> Result<f64, String> {
+        let ask = format!("explain (analyze, timing off, costs off) select c0, c1, c2 from t{sheet}_{count};\n");
+        let printed = self.server.run(&(self.session.clone() + &ask.repeat(7)))?;
+        let milliseconds = |line: &str| line.strip_prefix("Execution Time: ")?.strip_suffix(" ms")?.parse::<f64>().ok();
+        let times: Vec<f64> = printed.lines().filter_map(milliseconds).map(|time| time / 1e3).collect();
+        Ok(Timing::of(times[2..].to_vec()).median)
+    }
 }
 
 /// 1. Rows listed.
-pub fn listings(report: &mut Report, effort: Effort, quick: bool) -> io::Result<()> {
+pub fn listings(report: &mut Report, effort: Effort) -> io::Result<()> {
     let counts = [1, 100, 1000, sheets::full_list()];
     let sheets = sheets::listings();
-    let runs = if quick { 11 } else { 41 };
     let postgres =
-        if server::is_installed() { by_postgres(&sheets, &counts, runs) } else { Err("not installed".into()) };
+        if server::is_installed() { Filtering::start(&sheets, &counts) } else { Err("not installed".into()) };
     if let Err(fault) = &postgres {
         report.say(&format!("\nPostgreSQL: {fault}"));
     }
@@ -86,28 +90,25 @@ pub fn listings(report: &mut Report, effort: Effort, quick: bool) -> io::Result<
     for (s, (name, sheet)) in sheets.iter().enumerate() {
         let packed = pack::sheet(sheet);
         let mut series: [Vec<(f64, f64)>; 3] = Default::default();
-        for (c, &count) in counts.iter().enumerate() {
+        for &count in &counts {
             let bytes = rows(count).bytes;
             let mut out = vec![0; bytes.len()];
-            let ours = by_library(effort, "listing", || library::listing(&packed, 0, 0, &session, &bytes, &mut out));
-            let rust = time(effort, || calls::listing(&packed, 0, 0, &session, &bytes, &mut out));
-            let theirs = postgres.as_ref().ok().map(|times| times[s][c]);
-            let (a, b, c) = (ours.map(|t| t.median), Some(rust.median), theirs.map(|t| t.median));
-            report.row(&[
-                name.to_string(),
-                count.to_string(),
-                bytes.len().to_string(),
-                cell(ours),
-                rust.to_string(),
-                cell(theirs),
-                ratio(c, a),
-                ratio(c, b),
-                ratio(a, b),
-                a.map_or("-".into(), |seconds| format!("{:.0}", count as f64 / seconds)),
-            ]);
-            to_postgres.extend(c.zip(a).map(|(theirs, ours)| theirs / ours));
-            to_rust.extend(a.map(|ours| ours / rust.median));
-            for (series, time) in series.iter_mut().zip([a, b, c]) {
+            let mut rounds = Rounds::default();
+            for _ in 0..effort.runs {
+                let ours = || once(effort, || library::listing(&packed, 0, 0, &session, &bytes, &mut out));
+                rounds.add(0, exports("listing").then(ours));
+                rounds.add(1, Some(once(effort, || calls::listing(&packed, 0, 0, &session, &bytes, &mut out))));
+                rounds.add(2, postgres.as_ref().ok().and_then(|postgres| postgres.once(s, count).ok()));
+            }
+            let times = [0, 1, 2].map(|who| rounds.timing(who));
+            let ratios = [(2, 0), (2, 1), (0, 1)].map(|(one, other)| rounds.ratio(one, other));
+            let medians = times.map(|time| time.map(|time| time.median));
+            let speed = medians[0].map_or("-".into(), |seconds| format!("{:.0}", count as f64 / seconds));
+            let named = [name.to_string(), count.to_string(), bytes.len().to_string()];
+            report.row(&[&named[..], &times.map(cell)[..], &ratios.map(times_as)[..], &[speed]].concat());
+            to_postgres.extend(ratios[0]);
+            to_rust.extend(ratios[2]);
+            for (series, time) in series.iter_mut().zip(medians) {
                 series.extend(time.map(|time| (count as f64, time)));
             }
         }

@@ -23,6 +23,11 @@ fn between(least: i64, most: i64) -> [Atom; 2] {
     [is(SEATS, Test::AtLeast(least)), is(SEATS, Test::AtMost(most))]
 }
 
+/// One policy for the tables that a selector names.
+pub fn plain(selector: Selector) -> Sheet {
+    table().permit("S", selector, &[vec![own()]])
+}
+
 /// Sheets for listing, from one policy with one atom to sixteen policies.
 pub fn listings() -> Vec<(&'static str, Sheet)> {
     let four: Clause = [vec![own(), within(RELEASED, &[1])], between(1, 900).to_vec()].concat();

@@ -6,7 +6,14 @@ use super::sheets::{self, Leak};
 use super::stack;
 use crate::cases::limits;
 use crate::library::{self, exports};
+use crate::reading::sheet::Selector;
 use crate::reading::{calls, pack};
+
+/// The most that reading nests: a selector of so many nodes one within another.
+fn nested(nodes: usize) -> Vec<u8> {
+    let selector = (1..nodes).fold(Selector::All, |inner, _| Selector::And(Box::new(Selector::All), Box::new(inner)));
+    pack::sheet(&sheets::plain(selector))
+}
 
 /// 4. Peak stack of each call, with the worst inputs among those above.
 pub fn stacks(report: &mut Report) {
@@ -21,14 +28,18 @@ pub fn stacks(report: &mut Report) {
         pack::sheet(&sheets::branches(256, Leak::First)),
         pack::sheet(&sheets::of_bytes(16_000)),
         pack::sheet(&sheets::of_atoms(8)),
+        nested(6),
+        nested(7),
     ];
     let mut out = vec![0; 70_000];
     let mut peaks = Vec::new();
-    for call in ["listing", "normal_form", "dead", "isolated", "covers", "branches"] {
+    for call in ["reading", "listing", "normal_form", "dead", "isolated", "covers", "branches"] {
         let (mut ours, mut rust) = (0, 0);
         for sheet in &inputs {
-            if exports(call) {
+            if measured(call) {
                 ours = ours.max(stack::peak(|| match call {
+                    // A table that is not there: the whole sheet is read first.
+                    "reading" => drop(library::branches(sheet, 99, 0)),
                     "listing" => drop(library::listing(sheet, 0, 0, &session, &bytes, &mut out)),
                     "normal_form" => drop(library::normal_form(sheet, &mut out)),
                     "dead" => drop(library::dead(sheet, 0, 0)),
@@ -38,6 +49,7 @@ pub fn stacks(report: &mut Report) {
                 }));
             }
             rust = rust.max(stack::peak(|| match call {
+                "reading" => drop(calls::branches(sheet, 99, 0)),
                 "listing" => drop(calls::listing(sheet, 0, 0, &session, &bytes, &mut out)),
                 "normal_form" => drop(calls::normal_form(sheet, &mut out)),
                 "dead" => drop(calls::dead(sheet, 0, 0)),
@@ -46,17 +58,23 @@ pub fn stacks(report: &mut Report) {
                 _ => drop(calls::branches(sheet, 0, 0)),
             }));
         }
-        report.row(&[call.into(), if exports(call) { ours.to_string() } else { "-".into() }, rust.to_string()]);
-        if exports(call) {
+        report.row(&[call.into(), if measured(call) { ours.to_string() } else { "-".into() }, rust.to_string()]);
+        if measured(call) {
             peaks.push((call, ours));
         }
     }
-    let listing = peaks.iter().find(|(call, _)| *call == "listing");
-    report
-        .target("stack of a listing: under 16 KiB", listing.map(|(_, bytes)| (bytes.to_string(), *bytes < 16 * 1024)));
+    for (call, what) in [("reading", "stack of reading: under 8 KiB"), ("listing", "stack of a listing: under 8 KiB")] {
+        let peak = peaks.iter().find(|(name, _)| *name == call);
+        report.target(what, peak.map(|(_, bytes)| (bytes.to_string(), *bytes < 8 * 1024)));
+    }
     let most = peaks.iter().max_by_key(|(_, bytes)| *bytes);
     report.target(
         "stack of every call: under 64 KiB",
         most.map(|(call, bytes)| (format!("{bytes} ({call})"), *bytes < 64 * 1024)),
     );
+}
+
+/// Is the call there? Reading by itself is measured through `branches`.
+fn measured(call: &str) -> bool {
+    exports(if call == "reading" { "branches" } else { call })
 }

@@ -51,24 +51,40 @@ pub struct Effort {
 pub const QUICK: Effort = Effort { runs: 11, run: Duration::from_micros(1500) };
 pub const FULL: Effort = Effort { runs: 21, run: Duration::from_millis(20) };
 
-/// Times the call: warmed up, and repeated within a run until the run is long enough. A call that
-/// is itself much longer than a run is made three times.
-pub fn time<T>(effort: Effort, mut call: impl FnMut() -> T) -> Timing {
+/// One run: seconds for a call, warmed up, and repeated until the run is long enough.
+pub fn once<T>(effort: Effort, mut call: impl FnMut() -> T) -> f64 {
     let start = Instant::now();
-    let mut warm = 0;
-    while warm == 0 || start.elapsed() < effort.run {
+    black_box(call());
+    let repeats = (effort.run.as_nanos() / start.elapsed().as_nanos().max(1)).max(1) as u32;
+    let start = Instant::now();
+    for _ in 0..repeats {
         black_box(call());
-        warm += 1;
     }
-    let one = start.elapsed() / warm;
-    let runs = if one > effort.run * 20 { 3 } else { effort.runs };
-    let repeats = (effort.run.as_nanos() / one.as_nanos().max(1)).max(1) as u32;
-    let run = |_| {
-        let start = Instant::now();
-        for _ in 0..repeats {
-            black_box(call());
-        }
-        start.elapsed().as_secs_f64() / f64::from(repeats)
-    };
-    Timing::of((0..runs).map(run).collect())
+    start.elapsed().as_secs_f64() / f64::from(repeats)
+}
+
+/// Times the call. One that is itself much longer than a run is timed as often as in the short form.
+pub fn time<T>(effort: Effort, mut call: impl FnMut() -> T) -> Timing {
+    let runs = if once(effort, &mut call) > effort.run.as_secs_f64() * 20.0 { QUICK.runs } else { effort.runs };
+    Timing::of((0..runs).map(|_| once(effort, &mut call)).collect())
+}
+
+/// What several take for the same, in turn, a round after another, so that a slow moment of the machine falls on all.
+#[derive(Default)]
+pub struct Rounds([Vec<f64>; 3]);
+
+impl Rounds {
+    pub fn add(&mut self, who: usize, seconds: Option<f64>) {
+        self.0[who].extend(seconds);
+    }
+
+    pub fn timing(&self, who: usize) -> Option<Timing> {
+        (!self.0[who].is_empty()).then(|| Timing::of(self.0[who].clone()))
+    }
+
+    /// The middle one of the rounds' ratios.
+    pub fn ratio(&self, one: usize, other: usize) -> Option<f64> {
+        let ratios: Vec<f64> = self.0[one].iter().zip(&self.0[other]).map(|(one, other)| one / other).collect();
+        (!ratios.is_empty()).then(|| Timing::of(ratios).median)
+    }
 }

@@ -1,11 +1,11 @@
 //! Verdicts: dead, isolated and covers beside z3 asked the same.
 
-use super::figures::{by_library, cell, ratio};
+use super::figures::{by_library, cell, ratio, times_as};
 use super::plot::Series;
 use super::report::Report;
 use super::sheets::{self, Leak};
 use super::smt;
-use super::time::{readable, time, Effort, Timing};
+use super::time::{readable, time, Effort, Rounds, Timing, QUICK};
 use crate::library::{self, exports};
 use crate::making::random::Random;
 use crate::making::sheets as random_sheets;
@@ -16,16 +16,25 @@ use crate::reading::{calls, pack, parse::parse};
 use std::io;
 use std::time::Instant;
 
-/// Seconds that z3 takes for the script, its start taken off.
-fn by_z3(script: &str, repeats: usize) -> Option<(f64, Vec<bool>)> {
+/// Seconds that z3 takes for the script, its start taken off, and what it found.
+fn by_z3(script: &str, repeats: usize) -> Option<(Timing, Vec<bool>)> {
     let timed = |text: &str| {
         let start = Instant::now();
         let found = smt::run(text);
         (start.elapsed().as_secs_f64(), found)
     };
-    let start = Timing::of((0..3).map(|_| timed("").0).collect()).median;
-    let (whole, found) = timed(&script.repeat(repeats));
-    Some((((whole - start) / repeats as f64).max(1e-6), found.ok()?))
+    let start = Timing::of((0..QUICK.runs).map(|_| timed("").0).collect()).median;
+    let text = script.repeat(repeats);
+    let found = smt::run(script).ok()?;
+    let run = |_| ((timed(&text).0 - start) / repeats as f64).max(1e-6);
+    Some((Timing::of((0..QUICK.runs).map(run).collect()), found))
+}
+
+/// Seconds that something takes.
+fn seconds(ask: impl FnOnce()) -> f64 {
+    let start = Instant::now();
+    ask();
+    start.elapsed().as_secs_f64()
 }
 
 /// 2. Verdicts by the number of branches and the place of the leak.
@@ -50,7 +59,7 @@ pub fn verdicts(report: &mut Report, effort: Effort, quick: bool) -> io::Result<
             let packed = pack::sheet(&sheet);
             let ours = by_library(effort, "isolated", || library::isolated(&packed, 0, 0));
             let rust = time(effort, || calls::isolated(&packed, 0, 0));
-            let whole = by_z3(&smt::isolated(&sheet, 0, 0), if quick { 10 } else { 40 });
+            let whole = by_z3(&smt::isolated(&sheet, 0, 0), 10);
             let first = match isolation(&sheet, 0, 0) {
                 Isolation::Isolated => None,
                 Isolation::Leaks(a, b) => Some((a as usize, b as usize)),
@@ -62,10 +71,10 @@ pub fn verdicts(report: &mut Report, effort: Effort, quick: bool) -> io::Result<
             if let (Some((_, whole)), Some((_, paired))) = (&whole, &paired) {
                 assert!(whole[0] == (leak != Leak::None) && paired.contains(&true) == whole[0], "z3 differs");
             }
-            let (a, b, c, d) = (ours.map(|t| t.median), Some(rust.median), whole.map(|t| t.0), paired.map(|t| t.0));
-            let show = |time: Option<f64>| time.map_or("-".into(), readable);
-            let cells = [format!("{leak:?}").to_lowercase(), n.to_string(), cell(ours), rust.to_string()];
-            report.row(&[&cells[..], &[show(c), show(d), ratio(d, a), ratio(d, b)]].concat());
+            let times = [ours, Some(rust), whole.map(|t| t.0), paired.map(|t| t.0)];
+            let [a, b, c, d] = times.map(|time| time.map(|time| time.median));
+            let name = [format!("{leak:?}").to_lowercase(), n.to_string()];
+            report.row(&[&name[..], &times.map(cell)[..], &[ratio(d, a), ratio(d, b)]].concat());
             if leak == Leak::None {
                 for (series, time) in plots.iter_mut().zip([a, b, c, d]) {
                     series.extend(time.map(|time| (n as f64, time)));
@@ -75,16 +84,14 @@ pub fn verdicts(report: &mut Report, effort: Effort, quick: bool) -> io::Result<
     }
     let worst = sheets::worst();
     let packed = pack::sheet(&worst);
-    let once = Effort { runs: 3, ..effort };
-    let ours = by_library(once, "isolated", || library::isolated(&packed, 0, 0));
+    let ours = by_library(effort, "isolated", || library::isolated(&packed, 0, 0));
     let rust = (!quick).then(|| {
-        let start = Instant::now();
         assert_eq!(calls::isolated(&packed, 0, 0), Ok(Isolation::Isolated));
-        start.elapsed().as_secs_f64()
+        time(effort, || calls::isolated(&packed, 0, 0))
     });
     report.target("the worst sheet's verdict: under 5 s", ours.map(|time| (readable(time.median), time.median < 5.0)));
     let cells = [format!("none; the worst sheet found, {} bytes", packed.len()), "256".into(), cell(ours)];
-    report.row(&[&cells[..], &[rust.map_or("-".into(), readable)], &["-"; 4].map(String::from)].concat());
+    report.row(&[&cells[..], &[cell(rust)], &["-"; 4].map(String::from)].concat());
     let [ours, rust, whole, paired] = plots;
     let named = |name: &str, points| Series { name: name.into(), points };
     let series =
@@ -122,31 +129,31 @@ pub fn random_verdicts(report: &mut Report, quick: bool) {
     }
     let packed: Vec<Vec<u8>> = made.iter().map(pack::sheet).collect();
     let all = ["dead", "isolated", "covers"].iter().all(|call| exports(call));
-    let seconds = |ask: &dyn Fn(&[u8])| {
-        let start = Instant::now();
-        packed.iter().for_each(|sheet| ask(sheet));
-        start.elapsed().as_secs_f64()
-    };
-    let ours = all.then(|| {
-        seconds(&|sheet| {
-            std::hint::black_box((
-                library::dead(sheet, 0, 0),
-                library::isolated(sheet, 0, 0),
-                library::covers(sheet, 0, 1),
-            ));
-        })
-    });
-    let rust = seconds(&|sheet| {
-        std::hint::black_box((calls::dead(sheet, 0, 0), calls::isolated(sheet, 0, 0), calls::covers(sheet, 0, 1)))
-            .0
-            .ok();
-    });
-    let theirs = by_z3(&script, 1);
-    if let Some((_, found)) = &theirs {
-        assert_eq!(*found, expected, "z3 differs from the reading");
+    if let Ok(found) = smt::run(&script) {
+        assert_eq!(found, expected, "z3 differs from the reading");
     }
-    let z3 = theirs.map(|found| found.0);
-    let total = z3.zip(ours).map(|(theirs, ours)| theirs / ours);
+    let mut rounds = Rounds::default();
+    for _ in 0..QUICK.runs {
+        let ours = || {
+            for sheet in &packed {
+                let verdicts =
+                    (library::dead(sheet, 0, 0), library::isolated(sheet, 0, 0), library::covers(sheet, 0, 1));
+                std::hint::black_box(verdicts);
+            }
+        };
+        let rust = || {
+            for sheet in &packed {
+                let verdicts = (calls::dead(sheet, 0, 0), calls::isolated(sheet, 0, 0), calls::covers(sheet, 0, 1));
+                std::hint::black_box(verdicts).0.ok();
+            }
+        };
+        let idle = seconds(|| drop(smt::run("")));
+        let z3 = smt::is_installed().then(|| seconds(|| drop(smt::run(&script))) - idle);
+        rounds.add(0, all.then(|| seconds(ours)));
+        rounds.add(1, Some(seconds(rust)));
+        rounds.add(2, z3);
+    }
+    let total = rounds.ratio(2, 0);
     report.target(
         "verdicts on random sheets: at least 100 times as fast as z3 in total",
         total.map(|ratio| (format!("{ratio:.0}"), ratio >= 100.0)),
@@ -155,8 +162,7 @@ pub fn random_verdicts(report: &mut Report, quick: bool) {
         "Verdicts on random sheets",
         &["sheets", "questions to z3", "library", "Rust", "z3", "z3 / library", "z3 / Rust"],
     );
-    let show = |time: Option<f64>| time.map_or("-".into(), readable);
     let counts = [made.len().to_string(), expected.len().to_string()];
-    report
-        .row(&[&counts[..], &[show(ours), readable(rust), show(z3), ratio(z3, ours), ratio(z3, Some(rust))]].concat());
+    let times = [0, 1, 2].map(|who| cell(rounds.timing(who)));
+    report.row(&[&counts[..], &times[..], &[times_as(total), times_as(rounds.ratio(2, 1))]].concat());
 }

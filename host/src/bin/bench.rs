@@ -17,13 +17,13 @@ fn main() -> io::Result<()> {
     let mut report = Report::new(folder)?;
     report.say("# Measurements");
     report.say(&format!(
-        "\n{}. Every figure is the median of at least {} runs, warm, with least and most;",
+        "\n{}. Every figure is the median of at least {} runs, warm, with least and most.",
         machine(),
-        effort.runs
+        QUICK.runs
     ));
-    report.say("calls longer than twenty runs are timed three times. Both sides are built for release. Buffers");
-    report.say("are not cleared between calls. Rust is the reading in host/src/reading. A dash: not there.");
-    listings(&mut report, effort, quick)?;
+    report.say("Both sides are built for release. Buffers are not cleared between calls. Rust is the reading in");
+    report.say("host/src/reading. A dash: not there, or left out in the short form.");
+    listings(&mut report, effort)?;
     verdicts(&mut report, effort, quick)?;
     random_verdicts(&mut report, quick);
     readings(&mut report, effort, quick)?;

@@ -1,23 +1,29 @@
--- What was read is handed on.
+-- What was read is handed on, and the book that it stands in is lent.
 use borrow.Author.Needs.{needs}
 use Rattle.answers.proofs.covers.Statement.{statement}
 use Rattle.answers.proofs.covers.Tie as tie
-use Rattle.answers.proofs.covers.Reads as reads
-use Rattle.answers.proofs.covers.Lts as lts
-use Rattle.sheet.proofs.read_sheet.Reads as read-sheet-reads
-use Rattle.verdicts.proofs.covers.Reads as covers-reads
 
--- src/lib.rt:28:34
+slice-aggregate-read-sheet : tie.Need-slice-aggregate-read-sheet
+slice-aggregate-read-sheet c = search needs
+
 read-sheet-requires : tie.Need-read-sheet-requires
 read-sheet-requires c κs = search needs
 
--- src/lib.rt:28:5
+slice-aggregate-covers : tie.Need-slice-aggregate-covers
+slice-aggregate-covers c = search needs
+
 covers-requires : tie.Need-covers-requires
 covers-requires c κs = search needs
 
--- src/lib.rt:25:1
 returns : tie.Need-returns
-returns c = c .covers .ensures (c .before .read-sheet .ensures)
+returns c = c .covers .ensures (c .before .before .before .read-sheet .ensures)
 
 pub covers-spec : {M : Type 1} → statement M
-covers-spec = tie.close (tie.spec read-sheet-requires covers-requires returns)
+covers-spec =
+    tie.close
+    (tie.spec
+    slice-aggregate-read-sheet
+    read-sheet-requires
+    slice-aggregate-covers
+    covers-requires
+    returns)

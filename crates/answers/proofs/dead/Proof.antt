@@ -1,23 +1,29 @@
--- What was read is handed on.
+-- What was read is handed on, and the book that it stands in is lent.
 use borrow.Author.Needs.{needs}
 use Rattle.answers.proofs.dead.Statement.{statement}
 use Rattle.answers.proofs.dead.Tie as tie
-use Rattle.answers.proofs.dead.Reads as reads
-use Rattle.answers.proofs.dead.Lts as lts
-use Rattle.sheet.proofs.read_sheet.Reads as read-sheet-reads
-use Rattle.verdicts.proofs.dead.Reads as dead-reads
 
--- src/lib.rt:14:32
+slice-aggregate-read-sheet : tie.Need-slice-aggregate-read-sheet
+slice-aggregate-read-sheet c = search needs
+
 read-sheet-requires : tie.Need-read-sheet-requires
 read-sheet-requires c κs = search needs
 
--- src/lib.rt:14:5
+slice-aggregate-dead : tie.Need-slice-aggregate-dead
+slice-aggregate-dead c = search needs
+
 dead-requires : tie.Need-dead-requires
 dead-requires c κs = search needs
 
--- src/lib.rt:11:1
 returns : tie.Need-returns
-returns c = c .dead .ensures (c .before .read-sheet .ensures)
+returns c = c .dead .ensures (c .before .before .before .read-sheet .ensures)
 
 pub dead-spec : {M : Type 1} → statement M
-dead-spec = tie.close (tie.spec read-sheet-requires dead-requires returns)
+dead-spec =
+    tie.close
+    (tie.spec
+    slice-aggregate-read-sheet
+    read-sheet-requires
+    slice-aggregate-dead
+    dead-requires
+    returns)

@@ -1,23 +1,29 @@
--- What was read is handed on.
+-- What was read is handed on, and the book that it stands in is lent.
 use borrow.Author.Needs.{needs}
 use Rattle.answers.proofs.isolated.Statement.{statement}
 use Rattle.answers.proofs.isolated.Tie as tie
-use Rattle.answers.proofs.isolated.Reads as reads
-use Rattle.answers.proofs.isolated.Lts as lts
-use Rattle.sheet.proofs.read_sheet.Reads as read-sheet-reads
-use Rattle.verdicts.proofs.isolated.Reads as isolated-reads
 
--- src/lib.rt:21:36
+slice-aggregate-read-sheet : tie.Need-slice-aggregate-read-sheet
+slice-aggregate-read-sheet c = search needs
+
 read-sheet-requires : tie.Need-read-sheet-requires
 read-sheet-requires c κs = search needs
 
--- src/lib.rt:21:5
+slice-aggregate-isolated : tie.Need-slice-aggregate-isolated
+slice-aggregate-isolated c = search needs
+
 isolated-requires : tie.Need-isolated-requires
 isolated-requires c κs = search needs
 
--- src/lib.rt:18:1
 returns : tie.Need-returns
-returns c = c .isolated .ensures (c .before .read-sheet .ensures)
+returns c = c .isolated .ensures (c .before .before .before .read-sheet .ensures)
 
 pub isolated-spec : {M : Type 1} → statement M
-isolated-spec = tie.close (tie.spec read-sheet-requires isolated-requires returns)
+isolated-spec =
+    tie.close
+    (tie.spec
+    slice-aggregate-read-sheet
+    read-sheet-requires
+    slice-aggregate-isolated
+    isolated-requires
+    returns)

@@ -1,34 +1,25 @@
 -- `covering::policy_covers` meets its contract: the clauses of b before i are spared.
-use Prim.Native.Nat.{_-_, _<_, _≤_}
-use mathlib.Core.Path.{_≡_}
-use lib.ListN.{length}
+use Prim.Native.Nat.{_-_, _≤_}
 use native.Mathlib.Omega.{arith}
 use borrow.Author.Needs.{needs}
-use Rattle.asked.proofs.Laying.{unmapped}
 use Rattle.covering.proofs.CoverLaws.{Sparing, sparing-starts, sparing-more, all-spared, one-left, past-count, past-eight}
 use Rattle.covering.proofs.policy_covers.Statement.{statement}
 use Rattle.covering.proofs.policy_covers.Tie as tie
 
 abbrev Inv-loop : tie.InvT-loop
-Inv-loop s a b top d count i₀ i = (i ≤ 8) × Sparing s d top a b i
+Inv-loop s d book a b top count i₀ i = (i ≤ 8) × Sparing s d book top a b i
 
 abbrev μ-loop : tie.MeasureT-loop
-μ-loop s a b top d count i₀ i = 8 - i
+μ-loop s d book a b top count i₀ i = 8 - i
 
-mul-policy : tie.Need-mul-policy Inv-loop μ-loop
-mul-policy c = omega arith
-
-element-copy-out-policy : tie.Need-element-copy-out-policy Inv-loop μ-loop
-element-copy-out-policy c = omega arith
+count-of-requires : tie.Need-count-of-requires Inv-loop μ-loop
+count-of-requires c κs = search needs
 
 loop-holds : tie.Need-loop-holds Inv-loop μ-loop
-loop-holds c = (omega arith, sparing-starts _ _ _ _ _)
+loop-holds c = (omega arith, sparing-starts _ _ _ _ _ _)
 
 returns : tie.Need-returns Inv-loop μ-loop
-returns c =
-    let e : length (c .before .before .before .before .before .args .t2 .policy) ≡ 16 = search (needs, unmapped) in
-    let i : c .before .before .before .before .before .args .b < length (c .before .before .before .before .before .args .t2 .policy) = omega arith in
-    all-spared _ _ _ _ _ _ (past-count _ _ _ _ i (c .if1 .taken)) (c .before .before .loop .inv .1)
+returns c = all-spared _ _ _ _ _ _ _ (past-count _ _ _ _ _ _ (c .before .before .before .count-of .ensures) (c .if1 .taken)) (c .before .before .loop .inv .1)
 
 clause-of-requires : tie.Need-clause-of-requires Inv-loop μ-loop
 clause-of-requires c κs = search needs
@@ -43,19 +34,13 @@ loop-less : tie.Need-loop-less Inv-loop μ-loop
 loop-less c = omega arith
 
 loop-again : tie.Need-loop-again Inv-loop μ-loop
-loop-again c = (omega arith, sparing-more _ _ _ _ _ _ _ _ (c .before .before .clause-of .ensures) (c .before .spared .ensures) (c .if2 .taken) (c .before .before .before .before .before .loop .inv .1))
+loop-again c = (omega arith, sparing-more _ _ _ _ _ _ _ _ _ (c .before .before .clause-of .ensures) (c .before .spared .ensures) (c .if2 .taken) (c .before .before .before .before .before .loop .inv .1))
 
 returns-2 : tie.Need-returns-2 Inv-loop μ-loop
-returns-2 c =
-    let e : length (c .before .before .before .before .before .before .before .before .args .t2 .policy) ≡ 16 = search (needs, unmapped) in
-    let i : c .before .before .before .before .before .before .before .before .args .b < length (c .before .before .before .before .before .before .before .before .args .t2 .policy) = omega arith in
-    one-left _ _ _ _ _ i _ _ _ (c .before .before .before .if1 .left) (c .before .before .clause-of .ensures) (c .before .spared .ensures) (c .if2 .left)
+returns-2 c = one-left _ _ _ _ _ _ _ (c .before .before .before .before .before .before .count-of .ensures) _ _ _ (c .before .before .before .if1 .left) (c .before .before .clause-of .ensures) (c .before .spared .ensures) (c .if2 .left)
 
 returns-3 : tie.Need-returns-3 Inv-loop μ-loop
-returns-3 c =
-    let e : length (c .before .before .before .before .args .t2 .policy) ≡ 16 = search (needs, unmapped) in
-    let i : c .before .before .before .before .args .b < length (c .before .before .before .before .args .t2 .policy) = omega arith in
-    all-spared _ _ _ _ _ _ (past-eight _ _ _ _ i (c .loop-test .left)) (c .before .loop .inv .1)
+returns-3 c = all-spared _ _ _ _ _ _ _ (past-eight _ _ _ _ _ (c .loop-test .left)) (c .before .loop .inv .1)
 
 pub policy-covers-spec : {M : Type 1} → statement M
 policy-covers-spec =
@@ -63,8 +48,7 @@ policy-covers-spec =
     (tie.spec
     Inv-loop
     μ-loop
-    mul-policy
-    element-copy-out-policy
+    count-of-requires
     loop-holds
     returns
     clause-of-requires

@@ -12,10 +12,10 @@ covered-requires : tie.Need-covered-requires
 covered-requires c κs = search needs
 
 returns : tie.Need-returns
-returns c = spared-covered _ _ _ _ _ _ _ (c .before .before .satisfiable .ensures) (c .before .if1 .taken) (c .covered .ensures)
+returns c = spared-covered _ _ _ _ _ _ _ _ (c .before .before .satisfiable .ensures) (c .before .if1 .taken) (c .covered .ensures)
 
 returns-2 : tie.Need-returns-2
-returns-2 c = spared-dead _ _ _ _ _ _ (c .before .satisfiable .ensures) (c .if1 .left)
+returns-2 c = spared-dead _ _ _ _ _ _ _ (c .before .satisfiable .ensures) (c .if1 .left)
 
 pub spared-spec : {M : Type 1} → statement M
 spared-spec = tie.close (tie.spec satisfiable-requires covered-requires returns returns-2)

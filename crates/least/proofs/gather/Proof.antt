@@ -1,23 +1,23 @@
 use Prim.Native.Nat.{ℕ, _≤_, _-_}
 use mathlib.Core.Path.{_≡_, _∙_, sym}
-use lib.ListN.{length, length-replicate}
+use lib.ListN.{length}
 -- After i atoms what these strike out of the class is marked.
 use borrow.Author.Needs.{needs}
 use native.Mathlib.Omega.{arith}
 use Rattle.least.specs.Least.{Marks}
 use Rattle.words.proofs.ClassLaws.{at-label}
-use Rattle.least.proofs.MarkLaws.{marks-none, marks-skip, marks-add, marks-done}
+use Rattle.least.proofs.MarkLaws.{marks-skip, marks-add, marks-done}
 use Rattle.least.proofs.gather.Statement.{statement}
 use Rattle.least.proofs.gather.Tie as tie
 
 abbrev Inv-loop : tie.InvT-loop
-Inv-loop s r x rep n marks₀ i₀ marks i = (i ≤ n) × (length marks ≡ 2112) × Marks s rep r x i marks
+Inv-loop s r x marks₀ rep n i₀ marks i = (i ≤ n) × (length marks ≡ 2112) × Marks s rep r x i marks
 
 abbrev μ-loop : tie.MeasureT-loop
-μ-loop s r x rep n marks₀ i₀ marks i = n - i
+μ-loop s r x marks₀ rep n i₀ marks i = n - i
 
 loop-holds : tie.Need-loop-holds Inv-loop μ-loop
-loop-holds c = (omega arith, length-replicate {A = ℕ} 2112 0, marks-none _ _ _ _)
+loop-holds c = (omega arith, c .before .pre .0, c .before .pre .1)
 
 var-at-requires : tie.Need-var-at-requires Inv-loop μ-loop
 var-at-requires c κs = search needs

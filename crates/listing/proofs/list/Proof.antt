@@ -16,17 +16,17 @@ use Rattle.listing.proofs.list.Statement.{statement}
 use Rattle.listing.proofs.list.Tie as tie
 
 abbrev Inv-loop : tie.InvT-loop
-Inv-loop s plan n rows there columns kinds present₀ values₀ out₀ p₀ at₀ count₀ present values out p at count =
-    (p ≤ length rows * 8) × (at ≤ p / 8) × (count ≤ p) × (length out ≡ length out₀) × Cells present values × ((sheet : Sheet) (t command : ℕ) (key : Contents) (rs : List Row) (q : ℕ) → Ready s plan n there columns kinds sheet t command key (held present₀ values₀) → readRows sheet (tableAt sheet t) rows ≡ found rs q → Ready s plan n there columns kinds sheet t command key (held present values) × Listing sheet t command key rows p out₀ at count out)
+Inv-loop s words heads counts rows there columns kinds present₀ values₀ out₀ some all p₀ at₀ count₀ present values out p at count =
+    (p ≤ length rows * 8) × (at ≤ p / 8) × (count ≤ p) × (length out ≡ length out₀) × Cells present values × ((sheet : Sheet) (t command : ℕ) (key : Contents) (rs : List Row) (q : ℕ) → Ready s words heads counts some all there columns kinds sheet t command key (held present₀ values₀) → readRows sheet (tableAt sheet t) rows ≡ found rs q → Ready s words heads counts some all there columns kinds sheet t command key (held present values) × Listing sheet t command key rows p out₀ at count out)
 
 abbrev μ-loop : tie.MeasureT-loop
-μ-loop s plan n rows there columns kinds present₀ values₀ out₀ p₀ at₀ count₀ present values out p at count = length rows * 8 - p
+μ-loop s words heads counts rows there columns kinds present₀ values₀ out₀ some all p₀ at₀ count₀ present values out p at count = length rows * 8 - p
 
 loop-holds : tie.Need-loop-holds Inv-loop μ-loop
-loop-holds c = (omega arith, omega arith, omega arith, refl, c .before .before .before .pre .5, λ sheet t command key rs q R is. (R, listing-starts sheet t command key _ _))
+loop-holds c = (omega arith, omega arith, omega arith, refl, c .before .before .before .pre .8, λ sheet t command key rs q R is. (R, listing-starts sheet t command key _ _))
 
 row-at-requires : tie.Need-row-at-requires Inv-loop μ-loop
-row-at-requires c κs = (omega arith, omega arith, c .before .before .before .before .before .before .before .pre .2, c .before .before .before .loop .inv .4)
+row-at-requires c κs = (omega arith, omega arith, c .before .before .before .before .before .before .before .pre .5, c .before .before .before .loop .inv .4)
 
 enum-known-end : tie.Need-enum-known-end Inv-loop μ-loop
 enum-known-end c = search needs
@@ -38,16 +38,16 @@ same-length : tie.Need-same-length Inv-loop μ-loop
 same-length c = c .before .before .before .before .before .before .loop .inv .3
 
 returns : tie.Need-returns Inv-loop μ-loop
-returns c = λ sheet t command key rs q R is. absurd (let g = c .before .before .before .before .before .before .loop .inv .5 sheet t command key rs q R is in never-lost sheet t command key (c .before .before .before .before .before .before .before .before .before .before .args .rows .now) (c .before .before .before .before .before .before .before .before .before .before .args .out .now) rs q (c .before .before .before .before .before .before .before .before .before .before .pre .3) is (c .before .before .before .before .before .before .loop .p) (c .before .before .before .before .before .before .loop .at) (c .before .before .before .before .before .before .loop .count) (c .before .before .before .before .before .before .loop .out) (g .1) (c .before .before .before .before .before .before .before .before .before .before .args .columns) (c .before .before .before .before .before .loop-test .taken) (held (c .before .before .before .before .before .before .loop .present) (c .before .before .before .before .before .before .loop .values)) (held (c .before .before .row-at .last .1 .1 .1 .1 .1 .0) (c .before .before .row-at .last .1 .1 .1 .1 .1 .1 .0)) (c .before .before .row-at .result) (c .before .before .row-at .ensures .2 sheet (tableAt sheet t) (g .0 .fields)) (c .enum-told .given .1))
+returns c = λ sheet t command key rs q R is. absurd (let g = c .before .before .before .before .before .before .loop .inv .5 sheet t command key rs q R is in never-lost sheet t command key (c .before .before .before .before .before .before .before .before .before .before .args .rows .now) (c .before .before .before .before .before .before .before .before .before .before .args .out .now) rs q (c .before .before .before .before .before .before .before .before .before .before .pre .6) is (c .before .before .before .before .before .before .loop .p) (c .before .before .before .before .before .before .loop .at) (c .before .before .before .before .before .before .loop .count) (c .before .before .before .before .before .before .loop .out) (g .1) (c .before .before .before .before .before .before .before .before .before .before .args .columns) (c .before .before .before .before .before .loop-test .taken) (held (c .before .before .before .before .before .before .loop .present) (c .before .before .before .before .before .before .loop .values)) (held (c .before .before .row-at .last .1 .1 .1 .1 .1 .0) (c .before .before .row-at .last .1 .1 .1 .1 .1 .1 .0)) (c .before .before .row-at .result) (c .before .before .row-at .ensures .2 sheet (tableAt sheet t) (g .0 .fields)) (c .enum-told .given .1))
 
 same-length-2 : tie.Need-same-length-2 Inv-loop μ-loop
 same-length-2 c = c .before .before .before .before .before .before .before .before .loop .inv .3
 
 returns-2 : tie.Need-returns-2 Inv-loop μ-loop
-returns-2 c = λ sheet t command key rs q R is. absurd (let w = ends-within _ _ _ (c .before .before .end .given .1) (c .before .before .before .before .row-at .ensures .1) in let g = c .before .before .before .before .before .before .before .before .loop .inv .5 sheet t command key rs q R is in never-stuck sheet t command key (c .before .before .before .before .before .before .before .before .before .before .before .before .args .rows .now) (c .before .before .before .before .before .before .before .before .before .before .before .before .args .out .now) rs q (c .before .before .before .before .before .before .before .before .before .before .before .before .pre .3) is (c .before .before .before .before .before .before .before .before .loop .p) (c .before .before .before .before .before .before .before .before .loop .at) (c .before .before .before .before .before .before .before .before .loop .count) (c .before .before .before .before .before .before .before .before .loop .out) (g .1) (c .before .before .before .before .before .before .before .before .before .before .before .before .args .columns) (c .before .before .before .before .before .before .before .loop-test .taken) (held (c .before .before .before .before .before .before .before .before .loop .present) (c .before .before .before .before .before .before .before .before .loop .values)) (held (c .before .before .before .before .row-at .last .1 .1 .1 .1 .1 .0) (c .before .before .before .before .row-at .last .1 .1 .1 .1 .1 .1 .0)) (c .before .before .before .before .row-at .result) (c .before .before .before .before .row-at .ensures .2 sheet (tableAt sheet t) (g .0 .fields)) (c .before .before .end .given .1) (w .0) (c .if1 .taken))
+returns-2 c = λ sheet t command key rs q R is. absurd (let w = ends-within _ _ _ (c .before .before .end .given .1) (c .before .before .before .before .row-at .ensures .1) in let g = c .before .before .before .before .before .before .before .before .loop .inv .5 sheet t command key rs q R is in never-stuck sheet t command key (c .before .before .before .before .before .before .before .before .before .before .before .before .args .rows .now) (c .before .before .before .before .before .before .before .before .before .before .before .before .args .out .now) rs q (c .before .before .before .before .before .before .before .before .before .before .before .before .pre .6) is (c .before .before .before .before .before .before .before .before .loop .p) (c .before .before .before .before .before .before .before .before .loop .at) (c .before .before .before .before .before .before .before .before .loop .count) (c .before .before .before .before .before .before .before .before .loop .out) (g .1) (c .before .before .before .before .before .before .before .before .before .before .before .before .args .columns) (c .before .before .before .before .before .before .before .loop-test .taken) (held (c .before .before .before .before .before .before .before .before .loop .present) (c .before .before .before .before .before .before .before .before .loop .values)) (held (c .before .before .before .before .row-at .last .1 .1 .1 .1 .1 .0) (c .before .before .before .before .row-at .last .1 .1 .1 .1 .1 .1 .0)) (c .before .before .before .before .row-at .result) (c .before .before .before .before .row-at .ensures .2 sheet (tableAt sheet t) (g .0 .fields)) (c .before .before .end .given .1) (w .0) (c .if1 .taken))
 
 is-admitted-requires : tie.Need-is-admitted-requires Inv-loop μ-loop
-is-admitted-requires c κs = (c .before .before .before .before .before .before .before .before .before .before .before .before .before .before .pre .0, c .before .before .before .before .before .before .before .before .before .before .before .before .before .before .pre .1, c .before .before .before .before .before .before .row-at .ensures .0)
+is-admitted-requires c κs = (c .before .before .before .before .before .before .before .before .before .before .before .before .before .before .pre .0, c .before .before .before .before .before .before .before .before .before .before .before .before .before .before .pre .1, c .before .before .before .before .before .before .before .before .before .before .before .before .before .before .pre .2, c .before .before .before .before .before .before .before .before .before .before .before .before .before .before .pre .3, c .before .before .before .before .before .before .before .before .before .before .before .before .before .before .pre .4, c .before .before .before .before .before .before .row-at .ensures .0)
 
 copy-requires : tie.Need-copy-requires Inv-loop μ-loop
 copy-requires c κs = let w = ends-within _ _ _ (c .before .before .before .before .before .before .before .end .given .1) (c .before .before .before .before .before .before .before .before .before .row-at .ensures .1) in (omega arith, omega arith, omega arith)
@@ -73,8 +73,8 @@ loop-again c =
       c .before .before .copy .kept .1 .1 .1 .0 ∙ c .before .before .before .before .before .before .before .before .before .before .before .before .before .before .before .before .loop .inv .3,
       c .before .before .before .before .before .before .before .before .before .before .before .before .row-at .ensures .0,
       λ sheet t command key rs q R is. let g = c .before .before .before .before .before .before .before .before .before .before .before .before .before .before .before .before .loop .inv .5 sheet t command key rs q R is in (
-        ready-next sheet t command key (c .before .before .before .before .before .before .before .before .before .before .before .before .before .before .before .before .before .before .before .before .args .rows .now) (c .before .before .before .before .before .before .before .before .before .before .before .before .before .before .before .before .before .before .before .before .args .out .now) rs q (c .before .before .before .before .before .before .before .before .before .before .before .before .before .before .before .before .before .before .before .before .pre .3) is (c .before .before .before .before .before .before .before .before .before .before .before .before .before .before .before .before .loop .p) (c .before .before .before .before .before .before .before .before .before .before .before .before .before .before .before .before .loop .at) (c .before .before .before .before .before .before .before .before .before .before .before .before .before .before .before .before .loop .count) (c .before .before .before .before .before .before .before .before .before .before .before .before .before .before .before .before .loop .out) (g .1) (c .before .before .before .before .before .before .before .before .before .before .before .before .before .before .before .before .before .before .before .before .args .columns) (c .before .before .before .before .before .before .before .before .before .before .before .before .before .before .before .loop-test .taken) (held (c .before .before .before .before .before .before .before .before .before .before .before .before .before .before .before .before .loop .present) (c .before .before .before .before .before .before .before .before .before .before .before .before .before .before .before .before .loop .values)) (held (c .before .before .before .before .before .before .before .before .before .before .before .before .row-at .last .1 .1 .1 .1 .1 .0) (c .before .before .before .before .before .before .before .before .before .before .before .before .row-at .last .1 .1 .1 .1 .1 .1 .0)) (c .before .before .before .before .before .before .before .before .before .before .before .before .row-at .result) (c .before .before .before .before .before .before .before .before .before .before .before .before .row-at .ensures .2 sheet (tableAt sheet t) (g .0 .fields)) (c .before .before .before .before .before .before .before .before .before .before .end .given .1) (c .before .before .before .before .before .before .before .before .if1 .left) (c .before .before .before .before .before .before .before .before .before .before .before .before .before .before .before .before .before .before .before .before .args .s .now) (c .before .before .before .before .before .before .before .before .before .before .before .before .before .before .before .before .before .before .before .before .args .plan .now) (c .before .before .before .before .before .before .before .before .before .before .before .before .before .before .before .before .before .before .before .before .args .n) (c .before .before .before .before .before .before .before .before .before .before .before .before .before .before .before .before .before .before .before .before .args .there) (c .before .before .before .before .before .before .before .before .before .before .before .before .before .before .before .before .before .before .before .before .args .kinds .now) (c .before .before .before .before .before .before .before .before .before .before .before .before .before .before .before .before .before .before .before .before .pre .2) (g .0),
-        subst (Listing sheet t command key _ _ _ _ _) (sym (c .before .before .copy .ensures)) (listing-keeps sheet t command key (c .before .before .before .before .before .before .before .before .before .before .before .before .before .before .before .before .before .before .before .before .args .rows .now) (c .before .before .before .before .before .before .before .before .before .before .before .before .before .before .before .before .before .before .before .before .args .out .now) rs q (c .before .before .before .before .before .before .before .before .before .before .before .before .before .before .before .before .before .before .before .before .pre .3) is (c .before .before .before .before .before .before .before .before .before .before .before .before .before .before .before .before .loop .p) (c .before .before .before .before .before .before .before .before .before .before .before .before .before .before .before .before .loop .at) (c .before .before .before .before .before .before .before .before .before .before .before .before .before .before .before .before .loop .count) (c .before .before .before .before .before .before .before .before .before .before .before .before .before .before .before .before .loop .out) (g .1) (c .before .before .before .before .before .before .before .before .before .before .before .before .before .before .before .before .before .before .before .before .args .columns) (c .before .before .before .before .before .before .before .before .before .before .before .before .before .before .before .loop-test .taken) (held (c .before .before .before .before .before .before .before .before .before .before .before .before .before .before .before .before .loop .present) (c .before .before .before .before .before .before .before .before .before .before .before .before .before .before .before .before .loop .values)) (held (c .before .before .before .before .before .before .before .before .before .before .before .before .row-at .last .1 .1 .1 .1 .1 .0) (c .before .before .before .before .before .before .before .before .before .before .before .before .row-at .last .1 .1 .1 .1 .1 .1 .0)) (c .before .before .before .before .before .before .before .before .before .before .before .before .row-at .result) (c .before .before .before .before .before .before .before .before .before .before .before .before .row-at .ensures .2 sheet (tableAt sheet t) (g .0 .fields)) (c .before .before .before .before .before .before .before .before .before .before .end .given .1) (c .before .before .before .before .before .before .before .before .if1 .left) (c .before .before .before .before .before .before .before .before .before .before .before .before .before .before .before .before .before .before .before .before .args .s .now) (c .before .before .before .before .before .before .before .before .before .before .before .before .before .before .before .before .before .before .before .before .args .plan .now) (c .before .before .before .before .before .before .before .before .before .before .before .before .before .before .before .before .before .before .before .before .args .n) (c .before .before .before .before .before .before .before .before .before .before .before .before .before .before .before .before .before .before .before .before .args .there) (c .before .before .before .before .before .before .before .before .before .before .before .before .before .before .before .before .before .before .before .before .args .kinds .now) (c .before .before .before .before .before .before .before .before .before .before .before .before .before .before .before .before .before .before .before .before .pre .2) (g .0) (c .before .before .before .before .before .is-admitted .ensures (kindOf sheet) (g .0 .kind)) (omega arith) (c .before .before .before .before .if2 .taken)),
+        ready-next sheet t command key (c .before .before .before .before .before .before .before .before .before .before .before .before .before .before .before .before .before .before .before .before .args .rows .now) (c .before .before .before .before .before .before .before .before .before .before .before .before .before .before .before .before .before .before .before .before .args .out .now) rs q (c .before .before .before .before .before .before .before .before .before .before .before .before .before .before .before .before .before .before .before .before .pre .6) is (c .before .before .before .before .before .before .before .before .before .before .before .before .before .before .before .before .loop .p) (c .before .before .before .before .before .before .before .before .before .before .before .before .before .before .before .before .loop .at) (c .before .before .before .before .before .before .before .before .before .before .before .before .before .before .before .before .loop .count) (c .before .before .before .before .before .before .before .before .before .before .before .before .before .before .before .before .loop .out) (g .1) (c .before .before .before .before .before .before .before .before .before .before .before .before .before .before .before .before .before .before .before .before .args .columns) (c .before .before .before .before .before .before .before .before .before .before .before .before .before .before .before .loop-test .taken) (held (c .before .before .before .before .before .before .before .before .before .before .before .before .before .before .before .before .loop .present) (c .before .before .before .before .before .before .before .before .before .before .before .before .before .before .before .before .loop .values)) (held (c .before .before .before .before .before .before .before .before .before .before .before .before .row-at .last .1 .1 .1 .1 .1 .0) (c .before .before .before .before .before .before .before .before .before .before .before .before .row-at .last .1 .1 .1 .1 .1 .1 .0)) (c .before .before .before .before .before .before .before .before .before .before .before .before .row-at .result) (c .before .before .before .before .before .before .before .before .before .before .before .before .row-at .ensures .2 sheet (tableAt sheet t) (g .0 .fields)) (c .before .before .before .before .before .before .before .before .before .before .end .given .1) (c .before .before .before .before .before .before .before .before .if1 .left) (c .before .before .before .before .before .before .before .before .before .before .before .before .before .before .before .before .before .before .before .before .args .s .now) (c .before .before .before .before .before .before .before .before .before .before .before .before .before .before .before .before .before .before .before .before .args .words .now) (c .before .before .before .before .before .before .before .before .before .before .before .before .before .before .before .before .before .before .before .before .args .heads .now) (c .before .before .before .before .before .before .before .before .before .before .before .before .before .before .before .before .before .before .before .before .args .counts .now) (c .before .before .before .before .before .before .before .before .before .before .before .before .before .before .before .before .before .before .before .before .args .plan .some) (c .before .before .before .before .before .before .before .before .before .before .before .before .before .before .before .before .before .before .before .before .args .plan .all) (c .before .before .before .before .before .before .before .before .before .before .before .before .before .before .before .before .before .before .before .before .args .there) (c .before .before .before .before .before .before .before .before .before .before .before .before .before .before .before .before .before .before .before .before .args .kinds .now) (c .before .before .before .before .before .before .before .before .before .before .before .before .before .before .before .before .before .before .before .before .pre .5) (g .0),
+        subst (Listing sheet t command key _ _ _ _ _) (sym (c .before .before .copy .ensures)) (listing-keeps sheet t command key (c .before .before .before .before .before .before .before .before .before .before .before .before .before .before .before .before .before .before .before .before .args .rows .now) (c .before .before .before .before .before .before .before .before .before .before .before .before .before .before .before .before .before .before .before .before .args .out .now) rs q (c .before .before .before .before .before .before .before .before .before .before .before .before .before .before .before .before .before .before .before .before .pre .6) is (c .before .before .before .before .before .before .before .before .before .before .before .before .before .before .before .before .loop .p) (c .before .before .before .before .before .before .before .before .before .before .before .before .before .before .before .before .loop .at) (c .before .before .before .before .before .before .before .before .before .before .before .before .before .before .before .before .loop .count) (c .before .before .before .before .before .before .before .before .before .before .before .before .before .before .before .before .loop .out) (g .1) (c .before .before .before .before .before .before .before .before .before .before .before .before .before .before .before .before .before .before .before .before .args .columns) (c .before .before .before .before .before .before .before .before .before .before .before .before .before .before .before .loop-test .taken) (held (c .before .before .before .before .before .before .before .before .before .before .before .before .before .before .before .before .loop .present) (c .before .before .before .before .before .before .before .before .before .before .before .before .before .before .before .before .loop .values)) (held (c .before .before .before .before .before .before .before .before .before .before .before .before .row-at .last .1 .1 .1 .1 .1 .0) (c .before .before .before .before .before .before .before .before .before .before .before .before .row-at .last .1 .1 .1 .1 .1 .1 .0)) (c .before .before .before .before .before .before .before .before .before .before .before .before .row-at .result) (c .before .before .before .before .before .before .before .before .before .before .before .before .row-at .ensures .2 sheet (tableAt sheet t) (g .0 .fields)) (c .before .before .before .before .before .before .before .before .before .before .end .given .1) (c .before .before .before .before .before .before .before .before .if1 .left) (c .before .before .before .before .before .before .before .before .before .before .before .before .before .before .before .before .before .before .before .before .args .s .now) (c .before .before .before .before .before .before .before .before .before .before .before .before .before .before .before .before .before .before .before .before .args .words .now) (c .before .before .before .before .before .before .before .before .before .before .before .before .before .before .before .before .before .before .before .before .args .heads .now) (c .before .before .before .before .before .before .before .before .before .before .before .before .before .before .before .before .before .before .before .before .args .counts .now) (c .before .before .before .before .before .before .before .before .before .before .before .before .before .before .before .before .before .before .before .before .args .plan .some) (c .before .before .before .before .before .before .before .before .before .before .before .before .before .before .before .before .before .before .before .before .args .plan .all) (c .before .before .before .before .before .before .before .before .before .before .before .before .before .before .before .before .before .before .before .before .args .there) (c .before .before .before .before .before .before .before .before .before .before .before .before .before .before .before .before .before .before .before .before .args .kinds .now) (c .before .before .before .before .before .before .before .before .before .before .before .before .before .before .before .before .before .before .before .before .pre .5) (g .0) (c .before .before .before .before .before .is-admitted .ensures (kindOf sheet) _ _ (g .0 .kind) (g .0 .laid)) (omega arith) (c .before .before .before .before .if2 .taken)),
       ),
     )
 
@@ -90,8 +90,8 @@ loop-again-2 c =
       c .before .before .before .before .before .before .before .before .before .before .before .before .loop .inv .3,
       c .before .before .before .before .before .before .before .before .row-at .ensures .0,
       λ sheet t command key rs q R is. let g = c .before .before .before .before .before .before .before .before .before .before .before .before .loop .inv .5 sheet t command key rs q R is in (
-        ready-next sheet t command key (c .before .before .before .before .before .before .before .before .before .before .before .before .before .before .before .before .args .rows .now) (c .before .before .before .before .before .before .before .before .before .before .before .before .before .before .before .before .args .out .now) rs q (c .before .before .before .before .before .before .before .before .before .before .before .before .before .before .before .before .pre .3) is (c .before .before .before .before .before .before .before .before .before .before .before .before .loop .p) (c .before .before .before .before .before .before .before .before .before .before .before .before .loop .at) (c .before .before .before .before .before .before .before .before .before .before .before .before .loop .count) (c .before .before .before .before .before .before .before .before .before .before .before .before .loop .out) (g .1) (c .before .before .before .before .before .before .before .before .before .before .before .before .before .before .before .before .args .columns) (c .before .before .before .before .before .before .before .before .before .before .before .loop-test .taken) (held (c .before .before .before .before .before .before .before .before .before .before .before .before .loop .present) (c .before .before .before .before .before .before .before .before .before .before .before .before .loop .values)) (held (c .before .before .before .before .before .before .before .before .row-at .last .1 .1 .1 .1 .1 .0) (c .before .before .before .before .before .before .before .before .row-at .last .1 .1 .1 .1 .1 .1 .0)) (c .before .before .before .before .before .before .before .before .row-at .result) (c .before .before .before .before .before .before .before .before .row-at .ensures .2 sheet (tableAt sheet t) (g .0 .fields)) (c .before .before .before .before .before .before .end .given .1) (c .before .before .before .before .if1 .left) (c .before .before .before .before .before .before .before .before .before .before .before .before .before .before .before .before .args .s .now) (c .before .before .before .before .before .before .before .before .before .before .before .before .before .before .before .before .args .plan .now) (c .before .before .before .before .before .before .before .before .before .before .before .before .before .before .before .before .args .n) (c .before .before .before .before .before .before .before .before .before .before .before .before .before .before .before .before .args .there) (c .before .before .before .before .before .before .before .before .before .before .before .before .before .before .before .before .args .kinds .now) (c .before .before .before .before .before .before .before .before .before .before .before .before .before .before .before .before .pre .2) (g .0),
-        listing-drops sheet t command key (c .before .before .before .before .before .before .before .before .before .before .before .before .before .before .before .before .args .rows .now) (c .before .before .before .before .before .before .before .before .before .before .before .before .before .before .before .before .args .out .now) rs q (c .before .before .before .before .before .before .before .before .before .before .before .before .before .before .before .before .pre .3) is (c .before .before .before .before .before .before .before .before .before .before .before .before .loop .p) (c .before .before .before .before .before .before .before .before .before .before .before .before .loop .at) (c .before .before .before .before .before .before .before .before .before .before .before .before .loop .count) (c .before .before .before .before .before .before .before .before .before .before .before .before .loop .out) (g .1) (c .before .before .before .before .before .before .before .before .before .before .before .before .before .before .before .before .args .columns) (c .before .before .before .before .before .before .before .before .before .before .before .loop-test .taken) (held (c .before .before .before .before .before .before .before .before .before .before .before .before .loop .present) (c .before .before .before .before .before .before .before .before .before .before .before .before .loop .values)) (held (c .before .before .before .before .before .before .before .before .row-at .last .1 .1 .1 .1 .1 .0) (c .before .before .before .before .before .before .before .before .row-at .last .1 .1 .1 .1 .1 .1 .0)) (c .before .before .before .before .before .before .before .before .row-at .result) (c .before .before .before .before .before .before .before .before .row-at .ensures .2 sheet (tableAt sheet t) (g .0 .fields)) (c .before .before .before .before .before .before .end .given .1) (c .before .before .before .before .if1 .left) (c .before .before .before .before .before .before .before .before .before .before .before .before .before .before .before .before .args .s .now) (c .before .before .before .before .before .before .before .before .before .before .before .before .before .before .before .before .args .plan .now) (c .before .before .before .before .before .before .before .before .before .before .before .before .before .before .before .before .args .n) (c .before .before .before .before .before .before .before .before .before .before .before .before .before .before .before .before .args .there) (c .before .before .before .before .before .before .before .before .before .before .before .before .before .before .before .before .args .kinds .now) (c .before .before .before .before .before .before .before .before .before .before .before .before .before .before .before .before .pre .2) (g .0) (c .before .is-admitted .ensures (kindOf sheet) (g .0 .kind)) (c .if2 .left),
+        ready-next sheet t command key (c .before .before .before .before .before .before .before .before .before .before .before .before .before .before .before .before .args .rows .now) (c .before .before .before .before .before .before .before .before .before .before .before .before .before .before .before .before .args .out .now) rs q (c .before .before .before .before .before .before .before .before .before .before .before .before .before .before .before .before .pre .6) is (c .before .before .before .before .before .before .before .before .before .before .before .before .loop .p) (c .before .before .before .before .before .before .before .before .before .before .before .before .loop .at) (c .before .before .before .before .before .before .before .before .before .before .before .before .loop .count) (c .before .before .before .before .before .before .before .before .before .before .before .before .loop .out) (g .1) (c .before .before .before .before .before .before .before .before .before .before .before .before .before .before .before .before .args .columns) (c .before .before .before .before .before .before .before .before .before .before .before .loop-test .taken) (held (c .before .before .before .before .before .before .before .before .before .before .before .before .loop .present) (c .before .before .before .before .before .before .before .before .before .before .before .before .loop .values)) (held (c .before .before .before .before .before .before .before .before .row-at .last .1 .1 .1 .1 .1 .0) (c .before .before .before .before .before .before .before .before .row-at .last .1 .1 .1 .1 .1 .1 .0)) (c .before .before .before .before .before .before .before .before .row-at .result) (c .before .before .before .before .before .before .before .before .row-at .ensures .2 sheet (tableAt sheet t) (g .0 .fields)) (c .before .before .before .before .before .before .end .given .1) (c .before .before .before .before .if1 .left) (c .before .before .before .before .before .before .before .before .before .before .before .before .before .before .before .before .args .s .now) (c .before .before .before .before .before .before .before .before .before .before .before .before .before .before .before .before .args .words .now) (c .before .before .before .before .before .before .before .before .before .before .before .before .before .before .before .before .args .heads .now) (c .before .before .before .before .before .before .before .before .before .before .before .before .before .before .before .before .args .counts .now) (c .before .before .before .before .before .before .before .before .before .before .before .before .before .before .before .before .args .plan .some) (c .before .before .before .before .before .before .before .before .before .before .before .before .before .before .before .before .args .plan .all) (c .before .before .before .before .before .before .before .before .before .before .before .before .before .before .before .before .args .there) (c .before .before .before .before .before .before .before .before .before .before .before .before .before .before .before .before .args .kinds .now) (c .before .before .before .before .before .before .before .before .before .before .before .before .before .before .before .before .pre .5) (g .0),
+        listing-drops sheet t command key (c .before .before .before .before .before .before .before .before .before .before .before .before .before .before .before .before .args .rows .now) (c .before .before .before .before .before .before .before .before .before .before .before .before .before .before .before .before .args .out .now) rs q (c .before .before .before .before .before .before .before .before .before .before .before .before .before .before .before .before .pre .6) is (c .before .before .before .before .before .before .before .before .before .before .before .before .loop .p) (c .before .before .before .before .before .before .before .before .before .before .before .before .loop .at) (c .before .before .before .before .before .before .before .before .before .before .before .before .loop .count) (c .before .before .before .before .before .before .before .before .before .before .before .before .loop .out) (g .1) (c .before .before .before .before .before .before .before .before .before .before .before .before .before .before .before .before .args .columns) (c .before .before .before .before .before .before .before .before .before .before .before .loop-test .taken) (held (c .before .before .before .before .before .before .before .before .before .before .before .before .loop .present) (c .before .before .before .before .before .before .before .before .before .before .before .before .loop .values)) (held (c .before .before .before .before .before .before .before .before .row-at .last .1 .1 .1 .1 .1 .0) (c .before .before .before .before .before .before .before .before .row-at .last .1 .1 .1 .1 .1 .1 .0)) (c .before .before .before .before .before .before .before .before .row-at .result) (c .before .before .before .before .before .before .before .before .row-at .ensures .2 sheet (tableAt sheet t) (g .0 .fields)) (c .before .before .before .before .before .before .end .given .1) (c .before .before .before .before .if1 .left) (c .before .before .before .before .before .before .before .before .before .before .before .before .before .before .before .before .args .s .now) (c .before .before .before .before .before .before .before .before .before .before .before .before .before .before .before .before .args .words .now) (c .before .before .before .before .before .before .before .before .before .before .before .before .before .before .before .before .args .heads .now) (c .before .before .before .before .before .before .before .before .before .before .before .before .before .before .before .before .args .counts .now) (c .before .before .before .before .before .before .before .before .before .before .before .before .before .before .before .before .args .plan .some) (c .before .before .before .before .before .before .before .before .before .before .before .before .before .before .before .before .args .plan .all) (c .before .before .before .before .before .before .before .before .before .before .before .before .before .before .before .before .args .there) (c .before .before .before .before .before .before .before .before .before .before .before .before .before .before .before .before .args .kinds .now) (c .before .before .before .before .before .before .before .before .before .before .before .before .before .before .before .before .pre .5) (g .0) (c .before .is-admitted .ensures (kindOf sheet) _ _ (g .0 .kind) (g .0 .laid)) (c .if2 .left),
       ),
     )
 
@@ -99,7 +99,7 @@ same-length-3 : tie.Need-same-length-3 Inv-loop μ-loop
 same-length-3 c = c .before .loop .inv .3
 
 returns-3 : tie.Need-returns-3 Inv-loop μ-loop
-returns-3 c = λ sheet t command key rs q R is. let g = c .before .loop .inv .5 sheet t command key rs q R is in listing-ends sheet t command key _ _ rs q (c .before .before .before .before .before .pre .3) is _ _ _ _ (g .1) (c .loop-test .left)
+returns-3 c = λ sheet t command key rs q R is. let g = c .before .loop .inv .5 sheet t command key rs q R is in listing-ends sheet t command key _ _ rs q (c .before .before .before .before .before .pre .6) is _ _ _ _ (g .1) (c .loop-test .left)
 
 pub list-spec : {M : Type 1} → statement M
 list-spec =

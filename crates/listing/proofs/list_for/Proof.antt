@@ -15,11 +15,11 @@ up-to-requires c κs = search needs
 up-to-requires-2 : tie.Need-up-to-requires-2
 up-to-requires-2 c κs = search needs
 
-mul-table : tie.Need-mul-table
-mul-table c = search needs
+table-of-requires : tie.Need-table-of-requires
+table-of-requires c κs = search needs
 
-array-copy-out-table : tie.Need-array-copy-out-table
-array-copy-out-table c = search needs
+cast-there : tie.Need-cast-there
+cast-there c = search needs
 
 session-at-requires : tie.Need-session-at-requires
 session-at-requires c κs = search needs
@@ -32,8 +32,8 @@ lay-policies-requires c κs = search needs
 
 list-requires : tie.Need-list-requires
 list-requires c κs =
-    let plan = c .before .before .before .before .before .lay-policies .ensures in
-    (plan .1, plan .0, c .before .before .before .before .before .before .before .before .before .before .before .before .before .before .before .before .before .up-to2 .ensures .0, c .before .before .before .before .before .before .before .before .are-rows .ensures .0 (c .before .before .before .before .before .before .before .if2 .taken), c .before .before .before .before .before .before .before .before .before .before .before .before .before .before .before .before .before .before .before .before .before .before .before .before .before .pre .1, c .before .before .before .before .before .before .before .before .before .before .before .session-at .ensures .0)
+    let plan = c .before .before .before .before .before .before .before .lay-policies .ensures in
+    (plan .3, plan .4, plan .0, plan .1, plan .2, c .before .before .before .before .before .before .before .before .before .before .before .before .before .before .before .before .before .before .before .before .before .up-to2 .ensures .0, c .before .before .before .before .before .before .before .before .before .before .before .before .are-rows .ensures .0 (c .before .before .before .before .before .before .before .before .before .before .before .if2 .taken), c .before .before .before .before .before .before .before .before .before .before .before .before .before .before .before .before .before .before .before .before .before .before .before .before .before .before .before .before .before .before .pre .1, c .before .before .before .before .before .before .before .before .before .before .before .before .before .before .before .session-at .ensures .0)
 
 same-length : tie.Need-same-length
 same-length c = search needs
@@ -41,21 +41,21 @@ same-length c = search needs
 returns : tie.Need-returns
 returns c =
     λ sheet l D A h.
-    let S = session-read sheet (c .before .before .before .before .before .before .before .before .before .before .before .before .before .before .before .before .before .before .before .before .before .before .before .before .before .before .before .before .args .t) (c .before .before .before .before .before .before .before .before .before .before .before .before .before .before .before .before .before .before .before .before .before .before .before .before .before .before .before .before .args .command) (c .before .before .before .before .before .before .before .before .before .before .before .before .before .before .before .before .before .before .before .before .before .before .before .before .before .before .before .before .args .session .now) (c .before .before .before .before .before .before .before .before .before .before .before .before .before .before .before .before .before .before .before .before .before .before .before .before .before .before .before .before .args .rows .now) (c .before .before .before .before .before .before .before .before .before .before .before .before .before .before .before .before .before .before .before .before .before .before .before .before .before .before .before .before .args .out .now) (held (replicate 24 0) (replicate 24 0)) (held (c .before .before .before .before .before .before .before .before .before .before .before .before .before .before .session-at .last .1 .1 .1 .0) (c .before .before .before .before .before .before .before .before .before .before .before .before .before .before .session-at .last .1 .1 .1 .1 .0)) (c .before .before .before .before .before .before .before .before .before .before .before .before .before .if1 .taken) (c .before .before .before .before .before .before .before .before .before .before .before .before .before .before .session-at .ensures .1 sheet (session-fields _ sheet (c .before .before .before .before .before .before .before .before .before .before .before .before .before .before .before .before .before .before .before .before .before .before .before .before .before .before .before .before .args .d) D A (c .before .before .before .before .before .before .before .before .before .before .before .before .before .before .before .before .before .before .before .before .before .up-to .result) (c .before .before .before .before .before .before .before .before .before .before .before .before .before .before .before .before .before .before .before .before .before .up-to .ensures .1))) in
-    let F = row-fields _ sheet (c .before .before .before .before .before .before .before .before .before .before .before .before .before .before .before .before .before .before .before .before .before .before .before .before .before .before .before .before .args .d) D A (c .before .before .before .before .before .before .before .before .before .before .before .before .before .before .before .before .before .before .before .before .before .before .before .before .before .before .before .before .args .t) (c .before .before .before .before .before .before .before .before .before .before .before .before .before .before .before .before .before .before .before .before .up-to2 .result) _ h (c .before .before .before .before .before .before .before .before .before .before .before .before .before .before .before .before .before .before .before .before .up-to2 .ensures .1) refl in
-    let R = rows-read sheet (c .before .before .before .before .before .before .before .before .before .before .before .before .before .before .before .before .before .before .before .before .before .before .before .before .before .before .before .before .args .t) (c .before .before .before .before .before .before .before .before .before .before .before .before .before .before .before .before .before .before .before .before .before .before .before .before .before .before .before .before .args .command) (c .before .before .before .before .before .before .before .before .before .before .before .before .before .before .before .before .before .before .before .before .before .before .before .before .before .before .before .before .args .session .now) (c .before .before .before .before .before .before .before .before .before .before .before .before .before .before .before .before .before .before .before .before .before .before .before .before .before .before .before .before .args .rows .now) (c .before .before .before .before .before .before .before .before .before .before .before .before .before .before .before .before .before .before .before .before .before .before .before .before .before .before .before .before .args .out .now) (held (replicate 24 0) (replicate 24 0)) (held (c .before .before .before .before .before .before .before .before .before .before .before .before .before .before .session-at .last .1 .1 .1 .0) (c .before .before .before .before .before .before .before .before .before .before .before .before .before .before .session-at .last .1 .1 .1 .1 .0)) (S .0) (S .1) (S .2) (c .before .before .before .before .before .before .before .before .before .before .if2 .taken) (c .before .before .before .before .before .before .before .before .before .before .before .are-rows .ensures .1 sheet (tableAt sheet (c .before .before .before .before .before .before .before .before .before .before .before .before .before .before .before .before .before .before .before .before .before .before .before .before .before .before .before .before .args .t)) F) in
-    let ready = made-ready _ sheet (c .before .before .before .before .before .before .before .before .before .before .before .before .before .before .before .before .before .before .before .before .before .before .before .before .before .before .before .before .args .d) D A _ _ _ _ _ _ (S .0) (held (replicate 24 0) (replicate 24 0)) (held (c .before .before .before .before .before .before .before .before .before .before .before .before .before .before .session-at .last .1 .1 .1 .0) (c .before .before .before .before .before .before .before .before .before .before .before .before .before .before .session-at .last .1 .1 .1 .1 .0)) (held (c .before .before .before .before .before .before .before .before .before .before .before .before .before .before .session-at .last .1 .1 .1 .0) (c .before .before .before .before .before .before .before .before .before .before .before .before .before .before .session-at .last .1 .1 .1 .1 .0)) F (c .before .before .before .before .before .before .before .before .lay-policies .ensures .2 sheet l D A h) (all-null 24 (replicate 24 0)) (S .3) (λ v k. refl) in
-    rows-asked sheet (c .before .before .before .before .before .before .before .before .before .before .before .before .before .before .before .before .before .before .before .before .before .before .before .before .before .before .before .before .args .t) (c .before .before .before .before .before .before .before .before .before .before .before .before .before .before .before .before .before .before .before .before .before .before .before .before .before .before .before .before .args .command) (c .before .before .before .before .before .before .before .before .before .before .before .before .before .before .before .before .before .before .before .before .before .before .before .before .before .before .before .before .args .session .now) (c .before .before .before .before .before .before .before .before .before .before .before .before .before .before .before .before .before .before .before .before .before .before .before .before .before .before .before .before .args .rows .now) (c .before .before .before .before .before .before .before .before .before .before .before .before .before .before .before .before .before .before .before .before .before .before .before .before .before .before .before .before .args .out .now) (held (replicate 24 0) (replicate 24 0)) (held (c .before .before .before .before .before .before .before .before .before .before .before .before .before .before .session-at .last .1 .1 .1 .0) (c .before .before .before .before .before .before .before .before .before .before .before .before .before .before .session-at .last .1 .1 .1 .1 .0)) (S .0) (S .1) (S .2) (R .0) (R .1) (R .2) _ _ (c .before .before .list .ensures sheet (c .before .before .before .before .before .before .before .before .before .before .before .before .before .before .before .before .before .before .before .before .before .before .before .before .before .before .before .before .args .t) (c .before .before .before .before .before .before .before .before .before .before .before .before .before .before .before .before .before .before .before .before .before .before .before .before .before .before .before .before .args .command) (S .0) (R .0) (R .1) ready (R .2))
+    let S = session-read sheet (c .before .before .before .before .before .before .before .before .before .before .before .before .before .before .before .before .before .before .before .before .before .before .before .before .before .before .before .before .before .before .before .before .before .args .t) (c .before .before .before .before .before .before .before .before .before .before .before .before .before .before .before .before .before .before .before .before .before .before .before .before .before .before .before .before .before .before .before .before .before .args .command) (c .before .before .before .before .before .before .before .before .before .before .before .before .before .before .before .before .before .before .before .before .before .before .before .before .before .before .before .before .before .before .before .before .before .args .session .now) (c .before .before .before .before .before .before .before .before .before .before .before .before .before .before .before .before .before .before .before .before .before .before .before .before .before .before .before .before .before .before .before .before .before .args .rows .now) (c .before .before .before .before .before .before .before .before .before .before .before .before .before .before .before .before .before .before .before .before .before .before .before .before .before .before .before .before .before .before .before .before .before .args .out .now) (held (replicate 24 0) (replicate 24 0)) (held (c .before .before .before .before .before .before .before .before .before .before .before .before .before .before .before .before .before .before .session-at .last .1 .1 .1 .0) (c .before .before .before .before .before .before .before .before .before .before .before .before .before .before .before .before .before .before .session-at .last .1 .1 .1 .1 .0)) (c .before .before .before .before .before .before .before .before .before .before .before .before .before .before .before .before .before .if1 .taken) (c .before .before .before .before .before .before .before .before .before .before .before .before .before .before .before .before .before .before .session-at .ensures .1 sheet (session-fields _ sheet (c .before .before .before .before .before .before .before .before .before .before .before .before .before .before .before .before .before .before .before .before .before .before .before .before .before .before .before .before .before .before .before .before .before .args .d) (c .before .before .before .before .before .before .before .before .before .before .before .before .before .before .before .before .before .before .before .before .before .before .before .before .before .before .before .before .before .before .before .before .before .args .book .now) D A (c .before .before .before .before .before .before .before .before .before .before .before .before .before .before .before .before .before .before .before .before .before .before .before .before .before .up-to .result) (c .before .before .before .before .before .before .before .before .before .before .before .before .before .before .before .before .before .before .before .before .before .before .before .before .before .up-to .ensures .1))) in
+    let F = row-fields _ sheet (c .before .before .before .before .before .before .before .before .before .before .before .before .before .before .before .before .before .before .before .before .before .before .before .before .before .before .before .before .before .before .before .before .before .args .d) (c .before .before .before .before .before .before .before .before .before .before .before .before .before .before .before .before .before .before .before .before .before .before .before .before .before .before .before .before .before .before .before .before .before .args .book .now) D A (c .before .before .before .before .before .before .before .before .before .before .before .before .before .before .before .before .before .before .before .before .before .before .before .before .before .before .before .before .before .before .before .before .before .args .t) (c .before .before .before .before .before .before .before .before .before .before .before .before .before .before .before .before .before .before .before .before .before .before .before .before .up-to2 .result) _ h (c .before .before .before .before .before .before .before .before .before .before .before .before .before .before .before .before .before .before .before .before .before .before .before .before .up-to2 .ensures .1) (c .before .before .before .before .before .before .before .before .before .before .before .before .before .before .before .before .before .before .before .before .before .before .before .table-of .ensures) refl in
+    let R = rows-read sheet (c .before .before .before .before .before .before .before .before .before .before .before .before .before .before .before .before .before .before .before .before .before .before .before .before .before .before .before .before .before .before .before .before .before .args .t) (c .before .before .before .before .before .before .before .before .before .before .before .before .before .before .before .before .before .before .before .before .before .before .before .before .before .before .before .before .before .before .before .before .before .args .command) (c .before .before .before .before .before .before .before .before .before .before .before .before .before .before .before .before .before .before .before .before .before .before .before .before .before .before .before .before .before .before .before .before .before .args .session .now) (c .before .before .before .before .before .before .before .before .before .before .before .before .before .before .before .before .before .before .before .before .before .before .before .before .before .before .before .before .before .before .before .before .before .args .rows .now) (c .before .before .before .before .before .before .before .before .before .before .before .before .before .before .before .before .before .before .before .before .before .before .before .before .before .before .before .before .before .before .before .before .before .args .out .now) (held (replicate 24 0) (replicate 24 0)) (held (c .before .before .before .before .before .before .before .before .before .before .before .before .before .before .before .before .before .before .session-at .last .1 .1 .1 .0) (c .before .before .before .before .before .before .before .before .before .before .before .before .before .before .before .before .before .before .session-at .last .1 .1 .1 .1 .0)) (S .0) (S .1) (S .2) (c .before .before .before .before .before .before .before .before .before .before .before .before .before .before .if2 .taken) (c .before .before .before .before .before .before .before .before .before .before .before .before .before .before .before .are-rows .ensures .1 sheet (tableAt sheet (c .before .before .before .before .before .before .before .before .before .before .before .before .before .before .before .before .before .before .before .before .before .before .before .before .before .before .before .before .before .before .before .before .before .args .t)) F) in
+    let ready = made-ready _ sheet (c .before .before .before .before .before .before .before .before .before .before .before .before .before .before .before .before .before .before .before .before .before .before .before .before .before .before .before .before .before .before .before .before .before .args .d) (c .before .before .before .before .before .before .before .before .before .before .before .before .before .before .before .before .before .before .before .before .before .before .before .before .before .before .before .before .before .before .before .before .before .args .book .now) D A _ _ _ _ _ _ _ (c .before .before .before .before .before .before .before .before .before .before .before .before .before .before .before .before .before .before .before .before .before .before .before .before .before .before .before .before .before .before .before .before .before .args .t) (c .before .before .before .before .before .before .before .before .before .before .before .before .before .before .before .before .before .before .before .before .before .before .before .before .before .before .before .before .before .before .before .before .before .args .command) (S .0) (held (replicate 24 0) (replicate 24 0)) (held (c .before .before .before .before .before .before .before .before .before .before .before .before .before .before .before .before .before .before .session-at .last .1 .1 .1 .0) (c .before .before .before .before .before .before .before .before .before .before .before .before .before .before .before .before .before .before .session-at .last .1 .1 .1 .1 .0)) (held (c .before .before .before .before .before .before .before .before .before .before .before .before .before .before .before .before .before .before .session-at .last .1 .1 .1 .0) (c .before .before .before .before .before .before .before .before .before .before .before .before .before .before .before .before .before .before .session-at .last .1 .1 .1 .1 .0)) F (c .before .before .before .before .before .before .before .before .before .before .lay-policies .ensures .5 sheet l D h) (all-null 24 (replicate 24 0)) (S .3) (λ v k. refl) in
+    rows-asked sheet (c .before .before .before .before .before .before .before .before .before .before .before .before .before .before .before .before .before .before .before .before .before .before .before .before .before .before .before .before .before .before .before .before .before .args .t) (c .before .before .before .before .before .before .before .before .before .before .before .before .before .before .before .before .before .before .before .before .before .before .before .before .before .before .before .before .before .before .before .before .before .args .command) (c .before .before .before .before .before .before .before .before .before .before .before .before .before .before .before .before .before .before .before .before .before .before .before .before .before .before .before .before .before .before .before .before .before .args .session .now) (c .before .before .before .before .before .before .before .before .before .before .before .before .before .before .before .before .before .before .before .before .before .before .before .before .before .before .before .before .before .before .before .before .before .args .rows .now) (c .before .before .before .before .before .before .before .before .before .before .before .before .before .before .before .before .before .before .before .before .before .before .before .before .before .before .before .before .before .before .before .before .before .args .out .now) (held (replicate 24 0) (replicate 24 0)) (held (c .before .before .before .before .before .before .before .before .before .before .before .before .before .before .before .before .before .before .session-at .last .1 .1 .1 .0) (c .before .before .before .before .before .before .before .before .before .before .before .before .before .before .before .before .before .before .session-at .last .1 .1 .1 .1 .0)) (S .0) (S .1) (S .2) (R .0) (R .1) (R .2) _ _ (c .before .before .list .ensures sheet (c .before .before .before .before .before .before .before .before .before .before .before .before .before .before .before .before .before .before .before .before .before .before .before .before .before .before .before .before .before .before .before .before .before .args .t) (c .before .before .before .before .before .before .before .before .before .before .before .before .before .before .before .before .before .before .before .before .before .before .before .before .before .before .before .before .before .before .before .before .before .args .command) (S .0) (R .0) (R .1) ready (R .2))
 
 returns-2 : tie.Need-returns-2
 returns-2 c =
     λ sheet l D A h.
-    let S = session-read sheet (c .before .before .before .before .before .before .before .before .before .before .before .before .before .before .before .before .before .before .args .t) (c .before .before .before .before .before .before .before .before .before .before .before .before .before .before .before .before .before .before .args .command) (c .before .before .before .before .before .before .before .before .before .before .before .before .before .before .before .before .before .before .args .session .now) (c .before .before .before .before .before .before .before .before .before .before .before .before .before .before .before .before .before .before .args .rows .now) (c .before .before .before .before .before .before .before .before .before .before .before .before .before .before .before .before .before .before .args .out .now) (held (replicate 24 0) (replicate 24 0)) (held (c .before .before .before .before .session-at .last .1 .1 .1 .0) (c .before .before .before .before .session-at .last .1 .1 .1 .1 .0)) (c .before .before .before .if1 .taken) (c .before .before .before .before .session-at .ensures .1 sheet (session-fields _ sheet (c .before .before .before .before .before .before .before .before .before .before .before .before .before .before .before .before .before .before .args .d) D A (c .before .before .before .before .before .before .before .before .before .before .before .up-to .result) (c .before .before .before .before .before .before .before .before .before .before .before .up-to .ensures .1))) in
-    let F = row-fields _ sheet (c .before .before .before .before .before .before .before .before .before .before .before .before .before .before .before .before .before .before .args .d) D A (c .before .before .before .before .before .before .before .before .before .before .before .before .before .before .before .before .before .before .args .t) (c .before .before .before .before .before .before .before .before .before .before .up-to2 .result) _ h (c .before .before .before .before .before .before .before .before .before .before .up-to2 .ensures .1) refl in
-    refused-rows sheet (c .before .before .before .before .before .before .before .before .before .before .before .before .before .before .before .before .before .before .args .t) (c .before .before .before .before .before .before .before .before .before .before .before .before .before .before .before .before .before .before .args .command) (c .before .before .before .before .before .before .before .before .before .before .before .before .before .before .before .before .before .before .args .session .now) (c .before .before .before .before .before .before .before .before .before .before .before .before .before .before .before .before .before .before .args .rows .now) (c .before .before .before .before .before .before .before .before .before .before .before .before .before .before .before .before .before .before .args .out .now) (held (replicate 24 0) (replicate 24 0)) (held (c .before .before .before .before .session-at .last .1 .1 .1 .0) (c .before .before .before .before .session-at .last .1 .1 .1 .1 .0)) (S .0) (S .1) (S .2) (c .if2 .left) (c .before .are-rows .ensures .1 sheet (tableAt sheet (c .before .before .before .before .before .before .before .before .before .before .before .before .before .before .before .before .before .before .args .t)) F)
+    let S = session-read sheet (c .before .before .before .before .before .before .before .before .before .before .before .before .before .before .before .before .before .before .before .args .t) (c .before .before .before .before .before .before .before .before .before .before .before .before .before .before .before .before .before .before .before .args .command) (c .before .before .before .before .before .before .before .before .before .before .before .before .before .before .before .before .before .before .before .args .session .now) (c .before .before .before .before .before .before .before .before .before .before .before .before .before .before .before .before .before .before .before .args .rows .now) (c .before .before .before .before .before .before .before .before .before .before .before .before .before .before .before .before .before .before .before .args .out .now) (held (replicate 24 0) (replicate 24 0)) (held (c .before .before .before .before .session-at .last .1 .1 .1 .0) (c .before .before .before .before .session-at .last .1 .1 .1 .1 .0)) (c .before .before .before .if1 .taken) (c .before .before .before .before .session-at .ensures .1 sheet (session-fields _ sheet (c .before .before .before .before .before .before .before .before .before .before .before .before .before .before .before .before .before .before .before .args .d) (c .before .before .before .before .before .before .before .before .before .before .before .before .before .before .before .before .before .before .before .args .book .now) D A (c .before .before .before .before .before .before .before .before .before .before .before .up-to .result) (c .before .before .before .before .before .before .before .before .before .before .before .up-to .ensures .1))) in
+    let F = row-fields _ sheet (c .before .before .before .before .before .before .before .before .before .before .before .before .before .before .before .before .before .before .before .args .d) (c .before .before .before .before .before .before .before .before .before .before .before .before .before .before .before .before .before .before .before .args .book .now) D A (c .before .before .before .before .before .before .before .before .before .before .before .before .before .before .before .before .before .before .before .args .t) (c .before .before .before .before .before .before .before .before .before .before .up-to2 .result) _ h (c .before .before .before .before .before .before .before .before .before .before .up-to2 .ensures .1) (c .before .before .before .before .before .before .before .before .before .table-of .ensures) refl in
+    refused-rows sheet (c .before .before .before .before .before .before .before .before .before .before .before .before .before .before .before .before .before .before .before .args .t) (c .before .before .before .before .before .before .before .before .before .before .before .before .before .before .before .before .before .before .before .args .command) (c .before .before .before .before .before .before .before .before .before .before .before .before .before .before .before .before .before .before .before .args .session .now) (c .before .before .before .before .before .before .before .before .before .before .before .before .before .before .before .before .before .before .before .args .rows .now) (c .before .before .before .before .before .before .before .before .before .before .before .before .before .before .before .before .before .before .before .args .out .now) (held (replicate 24 0) (replicate 24 0)) (held (c .before .before .before .before .session-at .last .1 .1 .1 .0) (c .before .before .before .before .session-at .last .1 .1 .1 .1 .0)) (S .0) (S .1) (S .2) (c .if2 .left) (c .before .are-rows .ensures .1 sheet (tableAt sheet (c .before .before .before .before .before .before .before .before .before .before .before .before .before .before .before .before .before .before .before .args .t)) F)
 
 returns-3 : tie.Need-returns-3
-returns-3 c = λ sheet l D A h. refused-session sheet (c .before .before .before .before .before .before .before .before .before .before .before .before .before .before .before .args .t) (c .before .before .before .before .before .before .before .before .before .before .before .before .before .before .before .args .command) (c .before .before .before .before .before .before .before .before .before .before .before .before .before .before .before .args .session .now) (c .before .before .before .before .before .before .before .before .before .before .before .before .before .before .before .args .rows .now) (c .before .before .before .before .before .before .before .before .before .before .before .before .before .before .before .args .out .now) (held (replicate 24 0) (replicate 24 0)) (held (c .before .session-at .last .1 .1 .1 .0) (c .before .session-at .last .1 .1 .1 .1 .0)) (c .if1 .left) (c .before .session-at .ensures .1 sheet (session-fields _ sheet (c .before .before .before .before .before .before .before .before .before .before .before .before .before .before .before .args .d) D A (c .before .before .before .before .before .before .before .before .up-to .result) (c .before .before .before .before .before .before .before .before .up-to .ensures .1)))
+returns-3 c = λ sheet l D A h. refused-session sheet (c .before .before .before .before .before .before .before .before .before .before .before .before .before .before .before .before .args .t) (c .before .before .before .before .before .before .before .before .before .before .before .before .before .before .before .before .args .command) (c .before .before .before .before .before .before .before .before .before .before .before .before .before .before .before .before .args .session .now) (c .before .before .before .before .before .before .before .before .before .before .before .before .before .before .before .before .args .rows .now) (c .before .before .before .before .before .before .before .before .before .before .before .before .before .before .before .before .args .out .now) (held (replicate 24 0) (replicate 24 0)) (held (c .before .session-at .last .1 .1 .1 .0) (c .before .session-at .last .1 .1 .1 .1 .0)) (c .if1 .left) (c .before .session-at .ensures .1 sheet (session-fields _ sheet (c .before .before .before .before .before .before .before .before .before .before .before .before .before .before .before .before .args .d) (c .before .before .before .before .before .before .before .before .before .before .before .before .before .before .before .before .args .book .now) D A (c .before .before .before .before .before .before .before .before .up-to .result) (c .before .before .before .before .before .before .before .before .up-to .ensures .1)))
 
 pub list-for-spec : {M : Type 1} → statement M
 list-for-spec =
@@ -63,8 +63,8 @@ list-for-spec =
     (tie.spec
     up-to-requires
     up-to-requires-2
-    mul-table
-    array-copy-out-table
+    table-of-requires
+    cast-there
     session-at-requires
     are-rows-requires
     lay-policies-requires

@@ -13,7 +13,7 @@ use Rattle.steps.specs.Lists.{kindBy}
 use Rattle.steps.proofs.ClauseLaws.{mapped-at, mapped-suc, mapped-length}
 use Rattle.pruned.specs.Pruned.{numbered, chosen}
 use Rattle.packing.specs.Wrote.{AllInFive, Wrote}
-use Rattle.packing.proofs.AtomLaws.{all-here}
+use Rattle.lists.proofs.ListLaws.{all-here}
 use Rattle.packing.proofs.WroteLaws.{wrote-starts, wrote-as, wrote-both, wrote-more, wrote-all}
 use Rattle.normal.proofs.write_chosen.Statement.{statement}
 use Rattle.normal.proofs.write_chosen.Tie as tie

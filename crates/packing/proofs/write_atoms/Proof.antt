@@ -11,7 +11,7 @@ use Rattle.meaning.specs.Views.{atomOf, clauseOf}
 use Rattle.steps.specs.Lists.{kindBy}
 use Rattle.steps.proofs.ClauseLaws.{unmapped, atom-at, atoms-suc, atoms-length, no-atom}
 use Rattle.packing.specs.Wrote.{InFive, AllInFive, Wrote}
-use Rattle.packing.proofs.AtomLaws.{all-here}
+use Rattle.lists.proofs.ListLaws.{all-here}
 use Rattle.packing.proofs.WroteLaws.{wrote-starts, wrote-more, wrote-all}
 use Rattle.packing.proofs.write_atoms.Statement.{statement}
 use Rattle.packing.proofs.write_atoms.Tie as tie

@@ -68,7 +68,7 @@ use Rattle.place.proofs.atom_fields.Code as code
 abbrev stayed : Stays (f.ended .signature .params) (f.ended .kept)
 stayed = (stay-none-slice (0 ∷ []) tt (plain (λ _. u8)) yes, (stay-none (λ _. usize) yes, (stay-none (λ _. usize) yes, tt)))
 
--- the contract that the proof cites, beside `NextField`
+-- the contract that the proof cites, beside the thin reader's
 abbrev Made : {M : Type 1} (𝓤 : URA M) (H : Heap 𝓤) (A : Atoms 𝓤) (mem : Memory → SProp 𝓤) (run : Routine → Fun 𝓤) → Contract 𝓤
 Made 𝓤 H A mem run = tripleOf 𝓤 H A made-of.signature (made-of.spec 𝓤 H A mem run)
 

@@ -1,6 +1,7 @@
 -- A refused sheet's line, or the opening and the lines.
 use Rattle.script.proofs.Counting.{counts}
-use Rattle.report.proofs.LineLaws.{out-refused, out-told, outcome-refused, outcome-accepted}
+use Rattle.report.proofs.LineLaws.{out-refused, out-told}
+use Rattle.sheet.proofs.UserLaws.{read-found, read-refused}
 use borrow.Author.Needs.{needs}
 use Rattle.report.proofs.read_out.Statement.{statement}
 use Rattle.report.proofs.read_out.Tie as tie
@@ -13,6 +14,10 @@ use Rattle.report.proofs.tables_of.Reads as tables-of-reads
 use Rattle.sheet.proofs.read_sheet.Reads as read-sheet-reads
 
 -- src/lib.rt:184:9
+slice-aggregate-read-sheet : tie.Need-slice-aggregate-read-sheet
+slice-aggregate-read-sheet c = search needs
+
+-- src/lib.rt:185:9
 read-sheet-requires : tie.Need-read-sheet-requires
 read-sheet-requires c κs = search needs
 
@@ -47,7 +52,7 @@ same-length c = search needs
 -- src/lib.rt:179:1
 returns : tie.Need-returns
 returns c =
-    (out-refused _ _ (outcome-refused _ (c .before .before .before .before .before .before .before .before .before .read-sheet .result) _ (c .before .before .before .before .before .before .before .before .before .read-sheet .ensures) (c .before .before .before .before .before .outcome .given .1)) (c .before .before .put-refusal .ensures .0), counts _ _ (search needs))
+    (out-refused _ _ (read-refused _ _ _ (c .before .before .before .before .before .before .before .before .before .before .read-sheet .ensures) (c .before .before .before .before .before .outcome .given .1)) (c .before .before .put-refusal .ensures .0), counts _ _ (search needs))
 
 -- src/lib.rt:179:1
 same-length-2 : tie.Need-same-length-2
@@ -56,7 +61,7 @@ same-length-2 c = search needs
 -- src/lib.rt:179:1
 returns-2 : tie.Need-returns-2
 returns-2 c = (
-  out-told _ _ _ (outcome-accepted _ (c .before .before .before .before .before .before .before .before .before .before .before .before .before .read-sheet .result) (c .before .before .before .before .before .before .before .before .before .before .before .before .before .read-sheet .ensures) (c .before .before .before .before .before .before .before .before .before .enum-told .given .1)) (c .before .before .before .tables-of .ensures .1) (c .before .before .before .before .before .before .before .put-opening .ensures .0)
+  out-told _ _ _ (read-found _ _ _ (c .before .before .before .before .before .before .before .before .before .before .before .before .before .before .read-sheet .ensures) (c .before .before .before .before .before .before .before .before .before .enum-told .given .1)) (c .before .before .before .tables-of .ensures .1) (c .before .before .before .before .before .before .before .put-opening .ensures .0)
       (c .before .before .put-lines .ensures .0),
   counts _ _ (search needs),
 )
@@ -65,6 +70,7 @@ pub read-out-spec : {M : Type 1} → statement M
 read-out-spec =
     tie.close
     (tie.spec
+    slice-aggregate-read-sheet
     read-sheet-requires
     enum-known-outcome
     put-refusal-requires

@@ -18,7 +18,7 @@ meets-requires : tie.Need-meets-requires
 meets-requires c κs = search needs
 
 returns : tie.Need-returns
-returns c = branch-told _ _ _ _ (c .before .before .before .lay-at .last .1 .1 .1 .1 .0) (c .before .before .before .lay-at .result) _ (c .before .before .before .lay-at .ensures .1) (c .meets .ensures)
+returns c = branch-told _ _ _ _ _ (c .before .before .before .lay-at .last .1 .1 .1 .1 .1 .0) (c .before .before .before .lay-at .result) _ (c .before .before .before .lay-at .ensures .1) (c .meets .ensures)
 
 pub branch-met-spec : {M : Type 1} → statement M
 branch-met-spec =

@@ -16,7 +16,7 @@ same-length c = search needs
 
 returns : tie.Need-returns
 returns c =
-    (omega (arith, c .before .before .lay-branch .ensures .0), laid-at _ _ _ _ _ (c .before .before .before .before .before .before .before .before .before .args .words .now) _ _ (c .before .before .before .before .pick .ensures) (c .before .before .lay-branch .ensures .1))
+    (omega (arith, c .before .before .lay-branch .ensures .0), laid-at _ _ _ _ _ _ (c .before .before .before .before .before .before .before .before .before .before .args .words .now) _ _ (c .before .before .before .before .pick .ensures) (c .before .before .lay-branch .ensures .1))
 
 pub lay-at-spec : {M : Type 1} → statement M
 lay-at-spec = tie.close (tie.spec pick-requires lay-branch-requires same-length returns)

@@ -10,13 +10,13 @@ use Rattle.verdicts.proofs.marked.Statement.{statement}
 use Rattle.verdicts.proofs.marked.Tie as tie
 
 abbrev Inv-loop : tie.InvT-loop
-Inv-loop s d q n marks₀ k₀ marks k = (k ≤ 256) × (length marks ≡ 256) × Marks s d q marks
+Inv-loop s d book q n marks₀ k₀ marks k = (k ≤ 256) × (length marks ≡ 256) × Marks s d book q marks
 
 abbrev μ-loop : tie.MeasureT-loop
-μ-loop s d q n marks₀ k₀ marks k = 256 - k
+μ-loop s d book q n marks₀ k₀ marks k = 256 - k
 
 loop-holds : tie.Need-loop-holds Inv-loop μ-loop
-loop-holds c = (omega arith, refl, marks-start _ _ _ (replicate 256 1) refl)
+loop-holds c = (omega arith, refl, marks-start _ _ _ _ (replicate 256 1) refl)
 
 returns : tie.Need-returns Inv-loop μ-loop
 returns c = c .before .before .loop .inv .2
@@ -38,7 +38,7 @@ loop-less c = omega arith
 
 loop-again : tie.Need-loop-again Inv-loop μ-loop
 loop-again c = let l = c .before .before .before .before .loop in
-    (omega arith, length-set (l .marks) (l .k) (c .mark .result) ∙ l .inv .1, marks-next _ _ _ _ _ _ _ (omega arith) (c .mark .ensures) (c .before .branch-met .ensures) (l .inv .2))
+    (omega arith, length-set (l .marks) (l .k) (c .mark .result) ∙ l .inv .1, marks-next _ _ _ _ _ _ _ _ (omega arith) (c .mark .ensures) (c .before .branch-met .ensures) (l .inv .2))
 
 returns-2 : tie.Need-returns-2 Inv-loop μ-loop
 returns-2 c = c .before .loop .inv .2

@@ -2,7 +2,8 @@
 use mathlib.Core.Path.{refl, sym, ap, _∙_}
 use Rattle.values.specs.Reads.{fieldOf}
 use Rattle.values.proofs.ReadLaws.{found-by, refused-by}
-use Rattle.sheet.proofs.FieldLaws.{value-is, refusal-is, mate-lost, mate-like, mate-unlike, kind-is, variable-small}
+use Rattle.place.proofs.AtomHeadLaws.{kind-is}
+use Rattle.sheet.proofs.FieldLaws.{value-is, refusal-is, mate-lost, mate-like, mate-unlike, variable-small}
 use borrow.Author.Needs.{needs}
 use Rattle.sheet.proofs.fields.mate_at.Statement.{statement}
 use Rattle.sheet.proofs.fields.mate_at.Tie as tie
@@ -23,10 +24,10 @@ kind-of-requires : tie.Need-kind-of-requires
 kind-of-requires c κs = search needs
 
 returns-2 : tie.Need-returns-2
-returns-2 c facts p v F k e = found-by _ (c .before .before .before .before .before .variable-at .ensures facts p F e) (c .before .before .before .got .given .1) (λ o i j. value-is _ refl j (mate-like facts v _ p i (k ∙ sym (c .if1 .taken) ∙ c .before .kind-of .ensures ∙ kind-is F _ (variable-small facts _ p _ o i))))
+returns-2 c facts p v F k e = found-by _ (c .before .before .before .before .before .variable-at .ensures facts p F e) (c .before .before .before .got .given .1) (λ o i j. value-is _ refl j (mate-like facts v _ p i (k ∙ sym (c .if1 .taken) ∙ c .before .kind-of .ensures ∙ kind-is facts _ (F .kinds) _ (variable-small facts _ p _ o i))))
 
 returns-3 : tie.Need-returns-3
-returns-3 c facts p v F k e = found-by _ (c .before .before .before .before .before .variable-at .ensures facts p F e) (c .before .before .before .got .given .1) (λ o i j. sym (ap fieldOf (mate-unlike facts v _ p i (λ h. c .if1 .left (c .before .kind-of .ensures ∙ kind-is F _ (variable-small facts _ p _ o i) ∙ sym h ∙ k)))))
+returns-3 c facts p v F k e = found-by _ (c .before .before .before .before .before .variable-at .ensures facts p F e) (c .before .before .before .got .given .1) (λ o i j. sym (ap fieldOf (mate-unlike facts v _ p i (λ h. c .if1 .left (c .before .kind-of .ensures ∙ kind-is facts _ (F .kinds) _ (variable-small facts _ p _ o i) ∙ sym h ∙ k)))))
 
 pub mate-at-spec : {M : Type 1} → statement M
 mate-at-spec =

@@ -4,7 +4,7 @@ use native.Mathlib.Omega.{arith}
 use Rattle.values.proofs.ReadLaws.{field-found, field-lost}
 use Rattle.sheet.specs.Ends.{ended}
 use Rattle.sheet.proofs.TurnLaws.{field-stops, ends-lost}
-use Rattle.sheet.proofs.FrontLaws.{schema-lost, tags-lost, held-lost, table-found, table-high}
+use Rattle.sheet.proofs.FrontLaws.{schema-lost, tags-lost, held-lost, table-found, table-high, field-low}
 use denote.Ref.{now}
 use borrow.Author.Needs.{needs}
 use Rattle.sheet.proofs.opening.table_at.Statement.{statement}
@@ -61,6 +61,15 @@ returns-3 c p e = field-found (now (c .before .before .before .before .before .b
 held-below-requires : tie.Need-held-below-requires
 held-below-requires c κs = search needs
 
+cast-t15 : tie.Need-cast-t15
+cast-t15 c = omega (arith, field-low (now (c .before .before .before .before .before .before .before .before .before .before .before .before .before .before .before .args .s)) (c .before .before .before .before .before .before .before .before .before .before .before .before .before .before .before .args .at) 6 (c .before .before .before .before .before .before .before .before .before .before .before .before .before .field-at .ensures) (c .before .before .before .before .before .before .before .before .before .before .before .first .given .1))
+
+cast-t16 : tie.Need-cast-t16
+cast-t16 c = omega (arith, field-low (now (c .before .before .before .before .before .before .before .before .before .before .before .before .before .before .before .args .s)) (c .before .before .before .before .before .before .before .before .before .before .before .first .given .0 .1 .0) 8 (c .before .before .before .before .before .before .before .before .before .field-at2 .ensures) (c .before .before .before .before .before .before .before .second .given .1))
+
+cast-t17 : tie.Need-cast-t17
+cast-t17 c = omega (arith, field-low (now (c .before .before .before .before .before .before .before .before .before .before .before .before .before .before .before .args .s)) (c .before .before .before .before .before .before .before .second .given .0 .1 .0) 16 (c .before .before .before .before .before .field-at3 .ensures) (c .before .before .before .third .given .1))
+
 returns-4 : tie.Need-returns-4
 returns-4 c p e = field-found (now (c .before .before .before .before .before .before .before .before .before .before .before .before .before .before .before .args .s)) _ p 6 (omega arith) (omega arith) (c .before .before .before .before .before .before .before .before .before .before .before .before .before .field-at .ensures) e (c .before .before .before .before .before .before .before .before .before .before .before .first .given .1) (λ a X i.
     field-found (now (c .before .before .before .before .before .before .before .before .before .before .before .before .before .before .before .args .s)) _ a 8 (omega arith) (omega arith) (c .before .before .before .before .before .before .before .before .before .field-at2 .ensures) i (c .before .before .before .before .before .before .before .second .given .1) (λ b G j.
@@ -96,6 +105,9 @@ table-at-spec =
     no-table-requires-3
     returns-3
     held-below-requires
+    cast-t15
+    cast-t16
+    cast-t17
     returns-4
     no-table-requires-4
     returns-5)

@@ -10,8 +10,11 @@ mul-result c = search needs
 add-result : tie.Need-add-result
 add-result c = search needs
 
+cast-result : tie.Need-cast-result
+cast-result c = search needs
+
 returns : tie.Need-returns
 returns c n e h = bit-number _ n e h
 
 pub bit-of-spec : {M : Type 1} → statement M
-bit-of-spec = tie.close (tie.spec mul-result add-result returns)
+bit-of-spec = tie.close (tie.spec mul-result add-result cast-result returns)

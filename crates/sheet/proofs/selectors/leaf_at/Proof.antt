@@ -32,11 +32,14 @@ not-chosen-requires c κs = search needs
 returns-2 : tie.Need-returns-2
 returns-2 c facts inner p C T e n = ends-by (node-column facts inner _ (now (c .before .before .before .before .before .before .before .args .s)) p (c .before .before .before .before .before .if1 .left) (c .before .before .before .before .if2 .taken)) (unnamed (numberBelow 4 (length (facts .columns)) (now (c .before .before .before .before .before .before .before .args .s)) p) has-column (c .before .before .before .number-below .ensures p e (omega arith) (omega arith) ∙ ap (λ x. fieldOf (numberBelow 4 x (now (c .before .before .before .before .before .before .before .args .s)) p)) C) (c .before .enum-told .given .1) (c .not-chosen .ensures))
 
+cast-is-member : tie.Need-cast-is-member
+cast-is-member c = search needs
+
 is-member-requires : tie.Need-is-member-requires
 is-member-requires c κs = search needs
 
 returns-3 : tie.Need-returns-3
-returns-3 c facts inner p C T e n = ends-by (node-column facts inner _ (now (c .before .before .before .before .before .before .before .before .args .s)) p (c .before .before .before .before .before .before .if1 .left) (c .before .before .before .before .before .if2 .taken)) (named (numberBelow 4 (length (facts .columns)) (now (c .before .before .before .before .before .before .before .before .args .s)) p) has-column (c .before .before .before .before .number-below .ensures p e (omega arith) (omega arith) ∙ ap (λ x. fieldOf (numberBelow 4 x (now (c .before .before .before .before .before .before .before .before .args .s)) p)) C) (c .before .before .column .given .1) (c .is-member .ensures))
+returns-3 c facts inner p C T e n = ends-by (node-column facts inner _ (now (c .before .before .before .before .before .before .before .before .before .args .s)) p (c .before .before .before .before .before .before .before .if1 .left) (c .before .before .before .before .before .before .if2 .taken)) (named (numberBelow 4 (length (facts .columns)) (now (c .before .before .before .before .before .before .before .before .before .args .s)) p) has-column (c .before .before .before .before .before .number-below .ensures p e (omega arith) (omega arith) ∙ ap (λ x. fieldOf (numberBelow 4 x (now (c .before .before .before .before .before .before .before .before .before .args .s)) p)) C) (c .before .before .before .column .given .1) (c .is-member .ensures))
 
 field-at-requires : tie.Need-field-at-requires
 field-at-requires c κs = search needs
@@ -52,6 +55,9 @@ not-chosen-requires-2 c κs = search needs
 
 returns-4 : tie.Need-returns-4
 returns-4 c facts inner p C T e n = ends-by (node-schema facts inner _ (now (c .before .before .before .before .before .before .before .before .args .s)) p (c .before .before .before .before .before .if2 .left) (c .before .before .before .before .if3 .taken)) (unnamed (field 6 (now (c .before .before .before .before .before .before .before .before .args .s)) p) in-schema (field-read (now (c .before .before .before .before .before .before .before .before .args .s)) _ p 6 (omega arith) (omega arith) (c .before .before .before .field-at .ensures) e) (c .before .enum-told2 .given .1) (c .not-chosen2 .ensures))
+
+cast-t26 : tie.Need-cast-t26
+cast-t26 c = search needs
 
 returns-5 : tie.Need-returns-5
 returns-5 c facts inner p C T e n = ends-by (node-schema facts inner _ (now (c .before .before .before .before .before .before .before .before .before .args .s)) p (c .before .before .before .before .before .before .if2 .left) (c .before .before .before .before .before .if3 .taken)) (named (field 6 (now (c .before .before .before .before .before .before .before .before .before .args .s)) p) in-schema (field-read (now (c .before .before .before .before .before .before .before .before .before .args .s)) _ p 6 (omega arith) (omega arith) (c .before .before .before .before .field-at .ensures) e) (c .before .before .schema .given .1) refl)
@@ -89,11 +95,14 @@ not-chosen-requires-4 c κs = search needs
 returns-8 : tie.Need-returns-8
 returns-8 c facts inner p C T e n = ends-by (node-tag facts inner _ (now (c .before .before .before .before .before .before .before .before .before .args .s)) p (c .before .before .before .before .if4 .left) n) (unnamed (field 3 (now (c .before .before .before .before .before .before .before .before .before .args .s)) p) tag-number (field-read (now (c .before .before .before .before .before .before .before .before .before .args .s)) _ p 3 (omega arith) (omega arith) (c .before .before .before .field-at2 .ensures) e) (c .before .enum-told4 .given .1) (c .not-chosen4 .ensures))
 
+cast-is-member-2 : tie.Need-cast-is-member-2
+cast-is-member-2 c = search needs
+
 is-member-requires-2 : tie.Need-is-member-requires-2
 is-member-requires-2 c κs = search needs
 
 returns-9 : tie.Need-returns-9
-returns-9 c facts inner p C T e n = ends-by (node-tag facts inner _ (now (c .before .before .before .before .before .before .before .before .before .before .args .s)) p (c .before .before .before .before .before .if4 .left) n) (named (field 3 (now (c .before .before .before .before .before .before .before .before .before .before .args .s)) p) tag-number (field-read (now (c .before .before .before .before .before .before .before .before .before .before .args .s)) _ p 3 (omega arith) (omega arith) (c .before .before .before .before .field-at2 .ensures) e) (c .before .before .tag .given .1) (c .is-member2 .ensures))
+returns-9 c facts inner p C T e n = ends-by (node-tag facts inner _ (now (c .before .before .before .before .before .before .before .before .before .before .before .args .s)) p (c .before .before .before .before .before .before .if4 .left) n) (named (field 3 (now (c .before .before .before .before .before .before .before .before .before .before .before .args .s)) p) tag-number (field-read (now (c .before .before .before .before .before .before .before .before .before .before .before .args .s)) _ p 3 (omega arith) (omega arith) (c .before .before .before .before .before .field-at2 .ensures) e) (c .before .before .before .tag .given .1) (c .is-member2 .ensures))
 
 pub leaf-at-spec : {M : Type 1} → statement M
 leaf-at-spec =
@@ -105,6 +114,7 @@ leaf-at-spec =
     enum-told
     not-chosen-requires
     returns-2
+    cast-is-member
     is-member-requires
     returns-3
     field-at-requires
@@ -112,6 +122,7 @@ leaf-at-spec =
     enum-told-2
     not-chosen-requires-2
     returns-4
+    cast-t26
     returns-5
     number-below-requires-2
     enum-known-number
@@ -124,5 +135,6 @@ leaf-at-spec =
     enum-told-4
     not-chosen-requires-4
     returns-8
+    cast-is-member-2
     is-member-requires-2
     returns-9)

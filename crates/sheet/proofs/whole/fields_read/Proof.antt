@@ -1,5 +1,4 @@
 -- `sheet::whole::fields_read` meets its contract: counts, front and policies as the definition reads them, and the sheet's end.
-use native.Mathlib.Omega.{arith}
 use mathlib.Core.Path.{refl, sym, ap, _∙_, subst}
 use Rattle.meaning.specs.Reading.{times, policy}
 use Rattle.sheet.specs.Fronts.{Closes}
@@ -23,10 +22,10 @@ refused-requires : tie.Need-refused-requires
 refused-requires c κs = search needs
 
 returns : tie.Need-returns
-returns c = fields-lost (now (c .before .before .before .before .before .args .s)) (c .refused .result .directory) (c .refused .result .outcome) (c .refused .ensures _ (c .before .enum-told .given .1)) (counts-stop (now (c .before .before .before .before .before .args .s)) (ends-refused (c .before .before .before .counts-at .ensures .0) (c .before .enum-told .given .1)))
+returns c = fields-lost (now (c .before .before .before .before .before .before .args .s)) (c .refused .result .directory) (now (c .before .before .before .before .before .before .args .book)) (c .refused .result .outcome) (c .refused .ensures _ (c .before .enum-told .given .1)) (counts-stop (now (c .before .before .before .before .before .before .args .s)) (ends-refused (c .before .before .before .counts-at .ensures .0) (c .before .enum-told .given .1)))
 
 front-at-requires : tie.Need-front-at-requires
-front-at-requires c κs = c .before .before .before .counts-at .ensures .1
+front-at-requires c κs = search needs
 
 enum-known-second : tie.Need-enum-known-second
 enum-known-second c = search needs
@@ -37,12 +36,15 @@ enum-told-2 c = search needs
 refused-requires-2 : tie.Need-refused-requires-2
 refused-requires-2 c κs = search needs
 
+same-length : tie.Need-same-length
+same-length c = search needs
+
 returns-2 : tie.Need-returns-2
-returns-2 c = let n = ends-at (c .before .before .before .before .before .before .before .before .counts-at .ensures .0) (c .before .before .before .before .before .before .first .given .1) in
-    fields-lost (now (c .before .before .before .before .before .before .before .before .before .before .args .s)) (c .refused2 .result .directory) (c .refused2 .result .outcome) (c .refused2 .ensures _ (c .before .enum-told2 .given .1)) (front-stop (now (c .before .before .before .before .before .before .before .before .before .before .args .s)) (n .read) (ends-refused (c .before .before .before .before .front-at .ensures (n .item) (n .place) (n .holds) (n .here)) (c .before .enum-told2 .given .1)))
+returns-2 c = let n = ends-at (c .before .before .before .before .before .before .before .before .before .before .before .counts-at .ensures .0) (c .before .before .before .before .before .before .before .before .before .first .given .1) in
+    fields-lost (now (c .before .before .before .before .before .before .before .before .before .before .before .before .before .before .args .s)) (c .refused2 .result .directory) (c .before .before .before .before .before .before .front-at .last .1 .1 .1 .0) (c .refused2 .result .outcome) (c .refused2 .ensures _ (c .before .enum-told2 .given .1)) (front-stop (now (c .before .before .before .before .before .before .before .before .before .before .before .before .before .before .args .s)) (n .read) (ends-refused (c .before .before .before .before .before .before .front-at .ensures .1 (n .item) (n .place) (n .holds) (n .here)) (c .before .enum-told2 .given .1)))
 
 policies-at-requires : tie.Need-policies-at-requires
-policies-at-requires c κs = c .before .before .before .before .before .before .before .before .counts-at .ensures .1 .policies
+policies-at-requires c κs = search needs
 
 enum-known-third : tie.Need-enum-known-third
 enum-known-third c = search needs
@@ -53,33 +55,42 @@ enum-told-3 c = search needs
 refused-requires-3 : tie.Need-refused-requires-3
 refused-requires-3 c κs = search needs
 
+same-length-2 : tie.Need-same-length-2
+same-length-2 c = search needs
+
 returns-3 : tie.Need-returns-3
-returns-3 c = let n = ends-at (c .before .before .before .before .before .before .before .before .before .before .before .before .counts-at .ensures .0) (c .before .before .before .before .before .before .before .before .before .before .first .given .1) in
-    let f = ends-at (c .before .before .before .before .before .before .before .before .front-at .ensures (n .item) (n .place) (n .holds) (n .here)) (c .before .before .before .before .before .second .given .1) in
-    let ps = ends-by (ap (λ x. times x (policy (f .item)) (now (c .before .before .before .before .before .before .before .before .before .before .before .before .before .before .args .s)) (f .place)) (sym (n .holds .policies))) (c .before .before .before .policies-at .ensures (f .item) (f .place) (f .holds .facts) (c .before .before .before .before .before .before .before .before .before .before .before .before .before .before .pre) (f .here)) in
-    fields-lost (now (c .before .before .before .before .before .before .before .before .before .before .before .before .before .before .args .s)) (c .refused3 .result .directory) (c .refused3 .result .outcome) (c .refused3 .ensures _ (c .before .enum-told3 .given .1)) (policies-stop (now (c .before .before .before .before .before .before .before .before .before .before .before .before .before .before .args .s)) (n .read) (f .read) (ends-refused ps (c .before .enum-told3 .given .1)))
+returns-3 c = let n = ends-at (c .before .before .before .before .before .before .before .before .before .before .before .before .before .before .before .before .before .before .counts-at .ensures .0) (c .before .before .before .before .before .before .before .before .before .before .before .before .before .before .before .before .first .given .1) in
+    let f = ends-at (c .before .before .before .before .before .before .before .before .before .before .before .before .before .front-at .ensures .1 (n .item) (n .place) (n .holds) (n .here)) (c .before .before .before .before .before .before .before .before .second .given .1) in
+    let ps = ends-by (ap (λ x. times x (policy (f .item)) (now (c .before .before .before .before .before .before .before .before .before .before .before .before .before .before .before .before .before .before .before .before .before .args .s)) (f .place)) (sym (n .holds .policies))) (c .before .before .before .before .before .policies-at .ensures .1 (f .item) (f .place) (f .holds .facts) (c .before .before .before .before .before .before .before .before .before .before .before .before .before .before .before .before .before .before .before .before .before .pre .0) (f .here)) in
+    fields-lost (now (c .before .before .before .before .before .before .before .before .before .before .before .before .before .before .before .before .before .before .before .before .before .args .s)) (c .refused3 .result .directory) (c .before .before .before .before .before .policies-at .last .1 .1 .1 .1 .0) (c .refused3 .result .outcome) (c .refused3 .ensures _ (c .before .enum-told3 .given .1)) (policies-stop (now (c .before .before .before .before .before .before .before .before .before .before .before .before .before .before .before .before .before .before .before .before .before .args .s)) (n .read) (f .read) (ends-refused ps (c .before .enum-told3 .given .1)))
 
 closes-requires : tie.Need-closes-requires
-closes-requires c κs = search needs
+closes-requires c κs = c .before .before .before .before .before .before .before .before .before .before .before .before .before .before .before .before .before .before .before .before .before .pre .0
+
+same-length-3 : tie.Need-same-length-3
+same-length-3 c = search needs
 
 returns-4 : tie.Need-returns-4
-returns-4 c = let n = ends-at (c .before .before .before .before .before .before .before .before .before .before .before .before .before .before .before .before .counts-at .ensures .0) (c .before .before .before .before .before .before .before .before .before .before .before .before .before .before .first .given .1) in
-    let f = ends-at (c .before .before .before .before .before .before .before .before .before .before .before .before .front-at .ensures (n .item) (n .place) (n .holds) (n .here)) (c .before .before .before .before .before .before .before .before .before .second .given .1) in
-    let p = ends-at (ends-by (ap (λ x. times x (policy (f .item)) (now (c .before .before .before .before .before .before .before .before .before .before .before .before .before .before .before .before .before .before .args .s)) (f .place)) (sym (n .holds .policies))) (c .before .before .before .before .before .before .before .policies-at .ensures (f .item) (f .place) (f .holds .facts) (c .before .before .before .before .before .before .before .before .before .before .before .before .before .before .before .before .before .before .pre) (f .here))) (c .before .before .before .before .before .third .given .1) in (
+returns-4 c = let n = ends-at (c .before .before .before .before .before .before .before .before .before .before .before .before .before .before .before .before .before .before .before .before .counts-at .ensures .0) (c .before .before .before .before .before .before .before .before .before .before .before .before .before .before .before .before .before .before .first .given .1) in
+    let f = ends-at (c .before .before .before .before .before .before .before .before .before .before .before .before .before .before .before .front-at .ensures .1 (n .item) (n .place) (n .holds) (n .here)) (c .before .before .before .before .before .before .before .before .before .before .second .given .1) in
+    let p = ends-at (ends-by (ap (λ x. times x (policy (f .item)) (now (c .before .before .before .before .before .before .before .before .before .before .before .before .before .before .before .before .before .before .before .before .before .before .before .args .s)) (f .place)) (sym (n .holds .policies))) (c .before .before .before .before .before .before .before .policies-at .ensures .1 (f .item) (f .place) (f .holds .facts) (c .before .before .before .before .before .before .before .before .before .before .before .before .before .before .before .before .before .before .before .before .before .before .before .pre .0) (f .here))) (c .before .before .before .third .given .1) in (
       wholly (f .item) (p .item),
       _,
-      fields-found (now (c .before .before .before .before .before .before .before .before .before .before .before .before .before .before .before .before .before .before .args .s)) (n .read) (f .read) (p .read) (subst (Closes (now (c .before .before .before .before .before .before .before .before .before .before .before .before .before .before .before .before .before .before .args .s)) (p .place)) (c .before .before .if1 .taken) (c .before .before .before .closes .ensures (p .place) (p .here))),
-      described-so (f .holds) (p .holds) (n .holds .policies ∙ sym (times-length (policy (f .item)) (now (c .before .before .before .before .before .before .before .before .before .before .before .before .before .before .before .before .before .before .args .s)) (n .item .policies) (f .place) (p .item) (p .place) (p .read))),
+      fields-found (now (c .before .before .before .before .before .before .before .before .before .before .before .before .before .before .before .before .before .before .before .before .before .before .before .args .s)) (n .read) (f .read) (p .read) (subst (Closes (now (c .before .before .before .before .before .before .before .before .before .before .before .before .before .before .before .before .before .before .before .before .before .before .before .args .s)) (p .place)) (c .if1 .taken) (c .before .closes .ensures (p .place) (p .here))),
+      described-so (f .holds) (c .before .before .before .before .before .before .before .policies-at .ensures .0) (p .holds) (n .holds .policies ∙ sym (times-length (policy (f .item)) (now (c .before .before .before .before .before .before .before .before .before .before .before .before .before .before .before .before .before .before .before .before .before .before .before .args .s)) (n .item .policies) (f .place) (p .item) (p .place) (p .read))) (c .before .before .before .before .before .before .before .before .before .before .before .before .before .before .before .before .before .before .before .before .counts-at .ensures .1 .policies),
     )
 
 refused-requires-4 : tie.Need-refused-requires-4
 refused-requires-4 c κs = search needs
 
+same-length-4 : tie.Need-same-length-4
+same-length-4 c = search needs
+
 returns-5 : tie.Need-returns-5
-returns-5 c = let n = ends-at (c .before .before .before .before .before .before .before .before .before .before .before .before .before .before .before .counts-at .ensures .0) (c .before .before .before .before .before .before .before .before .before .before .before .before .before .first .given .1) in
-    let f = ends-at (c .before .before .before .before .before .before .before .before .before .before .before .front-at .ensures (n .item) (n .place) (n .holds) (n .here)) (c .before .before .before .before .before .before .before .before .second .given .1) in
-    let p = ends-at (ends-by (ap (λ x. times x (policy (f .item)) (now (c .before .before .before .before .before .before .before .before .before .before .before .before .before .before .before .before .before .args .s)) (f .place)) (sym (n .holds .policies))) (c .before .before .before .before .before .before .policies-at .ensures (f .item) (f .place) (f .holds .facts) (c .before .before .before .before .before .before .before .before .before .before .before .before .before .before .before .before .before .pre) (f .here))) (c .before .before .before .before .third .given .1) in
-    fields-lost (now (c .before .before .before .before .before .before .before .before .before .before .before .before .before .before .before .before .before .args .s)) (c .refused4 .result .directory) (c .refused4 .result .outcome) (c .refused4 .ensures 10 refl) (fields-open (now (c .before .before .before .before .before .before .before .before .before .before .before .before .before .before .before .before .before .args .s)) (n .read) (f .read) (p .read) (subst (Closes (now (c .before .before .before .before .before .before .before .before .before .before .before .before .before .before .before .before .before .args .s)) (p .place)) (c .before .if1 .left) (c .before .before .closes .ensures (p .place) (p .here))))
+returns-5 c = let n = ends-at (c .before .before .before .before .before .before .before .before .before .before .before .before .before .before .before .before .before .before .before .before .before .counts-at .ensures .0) (c .before .before .before .before .before .before .before .before .before .before .before .before .before .before .before .before .before .before .before .first .given .1) in
+    let f = ends-at (c .before .before .before .before .before .before .before .before .before .before .before .before .before .before .before .before .front-at .ensures .1 (n .item) (n .place) (n .holds) (n .here)) (c .before .before .before .before .before .before .before .before .before .before .before .second .given .1) in
+    let p = ends-at (ends-by (ap (λ x. times x (policy (f .item)) (now (c .before .before .before .before .before .before .before .before .before .before .before .before .before .before .before .before .before .before .before .before .before .before .before .before .args .s)) (f .place)) (sym (n .holds .policies))) (c .before .before .before .before .before .before .before .before .policies-at .ensures .1 (f .item) (f .place) (f .holds .facts) (c .before .before .before .before .before .before .before .before .before .before .before .before .before .before .before .before .before .before .before .before .before .before .before .before .pre .0) (f .here))) (c .before .before .before .before .third .given .1) in
+    fields-lost (now (c .before .before .before .before .before .before .before .before .before .before .before .before .before .before .before .before .before .before .before .before .before .before .before .before .args .s)) (c .refused4 .result .directory) (c .before .before .before .before .before .before .before .before .policies-at .last .1 .1 .1 .1 .0) (c .refused4 .result .outcome) (c .refused4 .ensures 10 refl) (fields-open (now (c .before .before .before .before .before .before .before .before .before .before .before .before .before .before .before .before .before .before .before .before .before .before .before .before .args .s)) (n .read) (f .read) (p .read) (subst (Closes (now (c .before .before .before .before .before .before .before .before .before .before .before .before .before .before .before .before .before .before .before .before .before .before .before .before .args .s)) (p .place)) (c .before .if1 .left) (c .before .before .closes .ensures (p .place) (p .here))))
 
 pub fields-read-spec : {M : Type 1} → statement M
 fields-read-spec =
@@ -94,13 +105,17 @@ fields-read-spec =
     enum-known-second
     enum-told-2
     refused-requires-2
+    same-length
     returns-2
     policies-at-requires
     enum-known-third
     enum-told-3
     refused-requires-3
+    same-length-2
     returns-3
     closes-requires
+    same-length-3
     returns-4
     refused-requires-4
+    same-length-4
     returns-5)

@@ -18,16 +18,16 @@ policy-covers-requires : tie.Need-policy-covers-requires
 policy-covers-requires c κs = (c .before .before .before .before .before .before .is-policy .ensures .0 (c .before .before .before .before .before .if1 .taken) .0, c .before .before .before .before .is-policy2 .ensures .0 (c .before .before .before .if2 .taken) .0)
 
 returns : tie.Need-returns
-returns c = cover-yes _ _ _ _ _ _ (c .before .before .before .before .before .before .before .before .is-policy .ensures .0 (c .before .before .before .before .before .before .before .if1 .taken) .1) (c .before .before .before .before .before .before .is-policy2 .ensures .0 (c .before .before .before .before .before .if2 .taken) .1) (c .before .before .tops .ensures) (c .before .policy-covers .ensures) (c .if3 .taken)
+returns c = cover-yes _ _ _ _ _ _ _ (c .before .before .before .before .before .before .before .before .is-policy .ensures .0 (c .before .before .before .before .before .before .before .if1 .taken) .1) (c .before .before .before .before .before .before .is-policy2 .ensures .0 (c .before .before .before .before .before .if2 .taken) .1) (c .before .before .tops .ensures) (c .before .policy-covers .ensures) (c .if3 .taken)
 
 returns-2 : tie.Need-returns-2
-returns-2 c = cover-no _ _ _ _ _ _ (c .before .before .before .before .before .before .before .before .is-policy .ensures .0 (c .before .before .before .before .before .before .before .if1 .taken) .1) (c .before .before .before .before .before .before .is-policy2 .ensures .0 (c .before .before .before .before .before .if2 .taken) .1) (c .before .before .tops .ensures) (c .before .policy-covers .ensures) (c .if3 .left)
+returns-2 c = cover-no _ _ _ _ _ _ _ (c .before .before .before .before .before .before .before .before .is-policy .ensures .0 (c .before .before .before .before .before .before .before .if1 .taken) .1) (c .before .before .before .before .before .before .is-policy2 .ensures .0 (c .before .before .before .before .before .if2 .taken) .1) (c .before .before .tops .ensures) (c .before .policy-covers .ensures) (c .if3 .left)
 
 returns-3 : tie.Need-returns-3
-returns-3 c = no-second _ _ _ _ (c .before .before .before .is-policy .ensures .0 (c .before .before .if1 .taken) .1) (c .before .is-policy2 .ensures .1 (c .if2 .left))
+returns-3 c = no-second _ _ _ _ _ (c .before .before .before .is-policy .ensures .0 (c .before .before .if1 .taken) .1) (c .before .is-policy2 .ensures .1 (c .if2 .left))
 
 returns-4 : tie.Need-returns-4
-returns-4 c = no-first _ _ _ _ (c .before .is-policy .ensures .1 (c .if1 .left))
+returns-4 c = no-first _ _ _ _ _ (c .before .is-policy .ensures .1 (c .if1 .left))
 
 pub cover-at-spec : {M : Type 1} → statement M
 cover-at-spec =

@@ -15,10 +15,10 @@ life-of-requires : tie.Need-life-of-requires
 life-of-requires c κs = search needs
 
 returns : tie.Need-returns
-returns c = let a = c .before .before .before .before .before .before .args in λ t command h. life-refused (a .s .now) (a .p .directory) (a .p .question) t command _ (a .p .standing) (c .before .standing .given .1) h
+returns c = let a = c .before .before .before .before .before .before .before .args in λ t command h. life-refused (a .s .now) (a .p .directory) (a .book .now) (a .p .question) t command _ (a .p .standing) (c .before .standing .given .1) h
 
 returns-2 : tie.Need-returns-2
-returns-2 c = let a = c .before .before .before .before .before .before .args in λ t command h. life-reply (a .s .now) (a .p .directory) (a .p .question) t command (a .p .standing) _ (c .before .enum-told .given .1) h (c .life-of .ensures)
+returns-2 c = let a = c .before .before .before .before .before .before .before .args in λ t command h. life-reply (a .s .now) (a .p .directory) (a .book .now) (a .p .question) t command (a .p .standing) _ (c .before .enum-told .given .1) h (c .life-of .ensures)
 
 pub dead-of-spec : {M : Type 1} → statement M
 dead-of-spec =

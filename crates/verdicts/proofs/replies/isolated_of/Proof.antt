@@ -15,10 +15,10 @@ isolation-of-requires : tie.Need-isolation-of-requires
 isolation-of-requires c κs = search needs
 
 returns : tie.Need-returns
-returns c = let a = c .before .before .before .before .before .before .args in λ t command h. isolation-refused (a .s .now) (a .p .directory) (a .p .question) t command _ (a .p .standing) (c .before .standing .given .1) h
+returns c = let a = c .before .before .before .before .before .before .before .args in λ t command h. isolation-refused (a .s .now) (a .p .directory) (a .book .now) (a .p .question) t command _ (a .p .standing) (c .before .standing .given .1) h
 
 returns-2 : tie.Need-returns-2
-returns-2 c = let a = c .before .before .before .before .before .before .args in λ t command h. isolation-reply (a .s .now) (a .p .directory) (a .p .question) t command (a .p .standing) _ (c .before .enum-told .given .1) h (c .isolation-of .ensures)
+returns-2 c = let a = c .before .before .before .before .before .before .before .args in λ t command h. isolation-reply (a .s .now) (a .p .directory) (a .book .now) (a .p .question) t command (a .p .standing) _ (c .before .enum-told .given .1) h (c .isolation-of .ensures)
 
 pub isolated-of-spec : {M : Type 1} → statement M
 isolated-of-spec =

@@ -18,7 +18,7 @@ tops-requires : tie.Need-tops-requires
 tops-requires c κs = search needs
 
 returns : tie.Need-returns
-returns c = posing _ _ _ _ _ _ _ _ (c .before .before .before .before .before .roles .ensures) (c .before .before .before .before .counts .ensures) (c .before .before .before .count .ensures) (c .tops .ensures)
+returns c = posing _ _ _ _ _ _ _ _ _ (c .before .before .before .before .before .roles .ensures) (c .before .before .before .before .counts .ensures) (c .before .before .before .count .ensures) (c .tops .ensures)
 
 pub question-of-spec : {M : Type 1} → statement M
 question-of-spec =
