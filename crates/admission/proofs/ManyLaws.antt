@@ -10,7 +10,7 @@ use Rattle.lists.specs.Lists.{every, any}
 use Rattle.lists.proofs.ListLaws.{any-at}
 use Rattle.meaning.specs.Values.{Kind, Contents}
 use Rattle.meaning.specs.Atoms.{Clause, clauseMet, policyMet}
-use Rattle.admission.specs.Plan.{guardOf, guardMet, ClauseLaid, ClausesLaid, slotOf, PoliciesLaid}
+use Rattle.admission.specs.Plan.{guardOf, guardMet, sieveOf, sieveMet, headOpen, Closed, ClauseLaid, ClausesLaid, slotOf, PoliciesLaid}
 
 module _ {A : Type 0} (f : A → Bool) (d : A) where
   any-none : (xs : List A) → ((i : ℕ) → i < length xs → f (getD xs i d) ≡ false) → any f xs ≡ false
@@ -30,35 +30,51 @@ module _ {A : Type 0} (f : A → Bool) (d : A) where
       go true = refl
       go false = refl
 
--- what fails at each number so far, and at the next
-pub fails-on : (f : ℕ → Bool) (from k : ℕ) {r : Bool} → ((j : ℕ) → from ≤ j → j < k → f j ≡ false) → r ≡ f k → r ≡ false → (j : ℕ) → from ≤ j → j < k + 1 → f j ≡ false
-fails-on f from k h g z j l m = go (decLt j k)
+-- what holds at each number so far, and at the next
+pub so-far : (P : ℕ → Type 0) (from k : ℕ) → ((j : ℕ) → from ≤ j → j < k → P j) → P k → (j : ℕ) → from ≤ j → j < k + 1 → P j
+so-far P from k h here j l m = go (decLt j k)
   where
-    go : Dec (j < k) → f j ≡ false
+    go : Dec (j < k) → P j
     go (yes n) = h j l n
-    go (no n) = let e : j ≡ k = omega arith in ap f e ∙ sym g ∙ z
+    go (no n) = let e : k ≡ j = omega arith in subst P e here
+
+-- one more head is not open; nor are all up to the next that has another guard, where the guard at hand is not met
+module _ (e : Contents) (heads : List ℕ) (from k : ℕ) (h : Closed e heads from k) where
+  pub closed-on : {r : Bool} → r ≡ headOpen e (getD heads k 0) → r ≡ false → Closed e heads from (k + 1)
+  closed-on g f = so-far (λ j. headOpen e (getD heads j 0) ≡ false) from k h (sym g ∙ f)
+
+  pub closed-past : {r : Bool} (guard next : ℕ) → r ≡ guardMet e guard → r ≡ false → guardOf (getD heads k 0) ≡ guard → ((j : ℕ) → k + 1 ≤ j → j < next → guardOf (getD heads j 0) ≡ guard) → Closed e heads from next
+  closed-past guard next g f here same j l m = go (decLt j k) (decLt k j)
+    where
+      shut : (i : ℕ) → guardOf (getD heads i 0) ≡ guard → headOpen e (getD heads i 0) ≡ false
+      shut i is = ap (λ b. b && sieveMet e (sieveOf (getD heads i 0))) (ap (guardMet e) is ∙ sym g ∙ f)
+
+      go : Dec (j < k) → Dec (k < j) → headOpen e (getD heads j 0) ≡ false
+      go (yes a) b = h j l a
+      go (no a) (yes b) = shut j (same j (omega arith) m)
+      go (no a) (no b) = let z : k ≡ j = omega arith in subst (λ i. headOpen e (getD heads i 0) ≡ false) z (shut k here)
 
 -- none of the clauses at the slots from `from` up to k is met
 abbrev pub NoneMet : Contents → ℕ → ℕ → List Clause → Type 0
 NoneMet e from k cs = (j : ℕ) → j < length cs → from + j < k → clauseMet e (getD cs j []) ≡ false
 
 module _ (kind : ℕ → Kind) (e : Contents) (s ws heads : List ℕ) (from end : ℕ) (cs : List Clause) (L : ClausesLaid kind s ws heads from end cs) where
-  -- where a guard is not met, its clause is not
-  not-open : (j : ℕ) → j < length cs → guardMet e (guardOf (getD heads (from + j) 0)) ≡ false → clauseMet e (getD cs j []) ≡ false
+  -- where a head is not open, its clause is not met
+  not-open : (j : ℕ) → j < length cs → headOpen e (getD heads (from + j) 0) ≡ false → clauseMet e (getD cs j []) ≡ false
   not-open j l f = go (clauseMet e (getD cs j [])) refl
     where
       go : (b : Bool) → clauseMet e (getD cs j []) ≡ b → b ≡ false
       go false m = refl
-      go true m = sym (L .each j l .guard e m) ∙ f
+      go true m = sym (L .each j l .opens e m) ∙ f
 
-  skips : (k next : ℕ) → NoneMet e from k cs → ((i : ℕ) → k ≤ i → i < next → guardMet e (guardOf (getD heads i 0)) ≡ false) → NoneMet e from next cs
+  skips : (k next : ℕ) → NoneMet e from k cs → Closed e heads k next → NoneMet e from next cs
   skips k next h g j l m = go (decLt (from + j) k)
     where
       go : Dec (from + j < k) → clauseMet e (getD cs j []) ≡ false
       go (yes n) = h j l n
       go (no n) = not-open j l (g (from + j) (omega arith) m)
 
-  pub opens : (next : ℕ) → ((i : ℕ) → from ≤ i → i < next → guardMet e (guardOf (getD heads i 0)) ≡ false) → NoneMet e from next cs
+  pub opens : (next : ℕ) → Closed e heads from next → NoneMet e from next cs
   opens next g = skips from next (λ j l m. absurd (omega arith)) g
 
   pub none-met : (k : ℕ) → end ≤ k → NoneMet e from k cs → policyMet e cs ≡ false
@@ -75,7 +91,7 @@ module _ (kind : ℕ → Kind) (e : Contents) (s ws heads : List ℕ) (from end 
     pub one-met : {r : Bool} → r ≡ clauseMet e (getD cs (k - from) []) → r ≡ true → policyMet e cs ≡ true
     one-met h t = any-at (clauseMet e) [] cs (k - from) inside (sym h ∙ t)
 
-    pub goes-on : {r : Bool} (next : ℕ) → NoneMet e from k cs → r ≡ clauseMet e (getD cs (k - from) []) → r ≡ false → ((i : ℕ) → k + 1 ≤ i → i < next → guardMet e (guardOf (getD heads i 0)) ≡ false) → NoneMet e from next cs
+    pub goes-on : {r : Bool} (next : ℕ) → NoneMet e from k cs → r ≡ clauseMet e (getD cs (k - from) []) → r ≡ false → Closed e heads (k + 1) next → NoneMet e from next cs
     goes-on next h g f = skips (k + 1) next (λ j l m. go j l m (decLt (from + j) k))
       where
         go : (j : ℕ) → j < length cs → from + j < k + 1 → Dec (from + j < k) → clauseMet e (getD cs j []) ≡ false
@@ -103,10 +119,10 @@ module _ (e : Contents) (ps : List (List Clause)) where
   pub one-denies : (i : ℕ) {r : Bool} → i < length ps → r ≡ policyMet e (getD ps i []) → r ≡ false → every (policyMet e) ps ≡ false
   one-denies i l h f = every-lost (policyMet e) [] ps i l (sym h ∙ f)
 
--- a permissive policy's clause is met and every restrictive policy is
-module _ (e : Contents) (cs : List Clause) (ps : List (List Clause)) {some : Bool} (h : some ≡ policyMet e cs) where
-  pub all-decide : {r : Bool} → some ≡ true → r ≡ every (policyMet e) ps → r ≡ (policyMet e cs && every (policyMet e) ps)
-  all-decide t g = g ∙ ap (λ b. b && every (policyMet e) ps) (sym t ∙ h)
+-- two tests, the second asked where the first is true
+module _ {a x : Bool} (b : Bool) (h : x ≡ a) where
+  pub second-decides : {r : Bool} → x ≡ true → r ≡ b → r ≡ (a && b)
+  second-decides t g = g ∙ ap (λ y. y && b) (sym t ∙ h)
 
-  pub none-admits : some ≡ false → false ≡ (policyMet e cs && every (policyMet e) ps)
-  none-admits f = ap (λ b. b && every (policyMet e) ps) (sym f ∙ h)
+  pub first-fails : x ≡ false → false ≡ (a && b)
+  first-fails f = ap (λ y. y && b) (sym f ∙ h)

@@ -34,7 +34,7 @@ module _ (kind : ℕ → Kind) (s ws : List ℕ) (after : List ℕ) where
       record {
         few = few;
         atoms = words-same kind s ws after (slot * 8) (placeOf head) (countOf head) (λ j l m. same j l (omega arith)) ∙ L .atoms;
-        guard = L .guard;
+        opens = L .opens;
       }
 
   pub clauses-kept : (heads headsAfter : List ℕ) (from end : ℕ) (cs : List Clause) → Same (from * 8) (end * 8) ws after → Same from end heads headsAfter → ClausesLaid kind s ws heads from end cs → ClausesLaid kind s after headsAfter from end cs

@@ -1,12 +1,14 @@
 -- The policies that count for a table and a command, laid out as numbers: a word for each atom, a head for each clause, a count for each
 -- restrictive policy. What words and heads stand for, and when a plan stands for policies.
-use Prim.Native.Nat.{ℕ, zero, suc, _+_, _-_, _*_, _/_, _%_, _<_, _≤_}
+use Prim.Native.Nat.{ℕ, zero, suc, _+_, _-_, _*_, _/_, _%_, _^_, _<_, _≤_}
 use mathlib.Core.Path.{_≡_}
-use mathlib.Core.Bool.{Bool, true, cond}
+use mathlib.Core.Bool.{Bool, true, false, cond, _&&_}
 use mathlib.Core.List.{List, [], _∷_}
 use lib.ListN.{length, getD}
 use lib.Dec.{ltb, eqb}
 use Rattle.bits.specs.Bits.{number}
+use Rattle.meaning.specs.declared.Content.{Content}
+use Rattle.meaning.specs.declared.Content.the-variants.{Null, Value}
 use Rattle.meaning.specs.Values.{Kind, raw, Contents}
 use Rattle.meaning.specs.Atoms.{Operator, equals, Atom, Clause, met, clauseMet}
 use Rattle.meaning.specs.Steps.{on}
@@ -52,7 +54,8 @@ unfoldable pub clauseOfWords : (ℕ → Kind) → List ℕ → List ℕ → (i p
 clauseOfWords kind s ws i p zero = []
 clauseOfWords kind s ws i p (suc n) = atomOfWord kind s (getD ws i 0) p ∷ clauseOfWords kind s ws (i + 1) (p + sizeOf (getD ws i 0)) n
 
--- a clause's head has its count of atoms (4 bits, the lowest), the bit number of its first atom (18), and a guard (10)
+-- a clause's head has its count of atoms (4 bits, the lowest), the bit number of its first atom (18), a guard (10), and a
+-- sieve (21)
 abbrev pub countOf : ℕ → ℕ
 countOf head = head % 16
 
@@ -60,7 +63,10 @@ abbrev pub placeOf : ℕ → ℕ
 placeOf head = head / 16 % 262144
 
 abbrev pub guardOf : ℕ → ℕ
-guardOf head = head / 4194304
+guardOf head = head / 4194304 % 1024
+
+abbrev pub sieveOf : ℕ → ℕ
+sieveOf head = head / 4294967296
 
 -- a guard is an equality of two variables (5 bits each); it asks nothing where the first is no variable
 abbrev pub guardBy : Contents → ℕ → ℕ → Bool
@@ -69,11 +75,34 @@ guardBy e v u = cond (ltb v 24) (met e (on v (equals u))) true
 abbrev pub guardMet : Contents → ℕ → Bool
 guardMet e g = guardBy e (g % 32) (g / 32 % 32)
 
--- the clause at a slot: its words stand from number 8 * slot on, and it is met only where its guard is
+-- a sieve is a variable (5 bits) and a set of residues by 16 (a bit each), those of a list's values; it asks nothing where the first is no
+-- variable
+abbrev pub hasResidue : ℕ → ℕ → Bool
+hasResidue set x = eqb (set / 2 ^ (x % 16) % 2) 1
+
+abbrev pub isSifted : ℕ → Content → Bool
+isSifted set Null = false
+isSifted set (Value x) = hasResidue set x
+
+abbrev pub sieveBy : Contents → ℕ → ℕ → Bool
+sieveBy e v set = cond (ltb v 24) (isSifted set (e v)) true
+
+abbrev pub sieveMet : Contents → ℕ → Bool
+sieveMet e sieve = sieveBy e (sieve % 32) (sieve / 32)
+
+-- a head is open where its guard and its sieve are met
+abbrev pub headOpen : Contents → ℕ → Bool
+headOpen e head = guardMet e (guardOf head) && sieveMet e (sieveOf head)
+
+-- no head at the slots from `from` up to k is open
+abbrev pub Closed : Contents → List ℕ → (from k : ℕ) → Type 0
+Closed e heads from k = (j : ℕ) → from ≤ j → j < k → headOpen e (getD heads j 0) ≡ false
+
+-- the clause at a slot: its words stand from number 8 * slot on, and it is met only where its head is open
 pub record ClauseLaid (kind : ℕ → Kind) (s ws : List ℕ) (slot head : ℕ) (c : Clause) : Type 0 where
   pub few : countOf head ≤ 8
   pub atoms : clauseOfWords kind s ws (slot * 8) (placeOf head) (countOf head) ≡ c
-  pub guard : (e : Contents) → clauseMet e c ≡ true → guardMet e (guardOf head) ≡ true
+  pub opens : (e : Contents) → clauseMet e c ≡ true → headOpen e head ≡ true
 
 -- clauses at the slots from `from` up to `end`
 pub record ClausesLaid (kind : ℕ → Kind) (s ws heads : List ℕ) (from end : ℕ) (cs : List Clause) : Type 0 where

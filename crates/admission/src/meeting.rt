@@ -6,7 +6,7 @@ use meaning::is_value;
 use rows::held_at;
 use values::raw_of;
 ghost use mathlib.Core.Path.{_≡_};
-ghost use mathlib.Core.Bool.{true, false, _&&_};
+ghost use mathlib.Core.Bool.{true, _&&_};
 ghost use mathlib.Core.List.{List};
 ghost use Prim.Native.Nat.{ℕ, _+_, _*_, _/_, _%_, _^_, _≤_, _<_};
 ghost use lib.ListN.{length, getD};
@@ -16,7 +16,7 @@ ghost use Rattle.meaning.specs.Values.{Kind, kindNumber, Contents};
 ghost use Rattle.meaning.specs.Atoms.{Clause, among, passes, met, clauseMet, policyMet};
 ghost use Rattle.meaning.specs.Views.{operatorOf};
 ghost use Rattle.rows.specs.Held.{held, Cells};
-ghost use Rattle.admission.specs.Plan.{valueAt, valuesAt, operatorNumberOf, variableOf, operatorOfWord, atomOfWord, sizeOf, guardOf, guardMet, ClauseLaid, ClausesLaid, PoliciesLaid, PlanLaid};
+ghost use Rattle.admission.specs.Plan.{valueAt, valuesAt, operatorNumberOf, variableOf, operatorOfWord, atomOfWord, sizeOf, guardOf, guardMet, sieveOf, sieveMet, Closed, ClauseLaid, ClausesLaid, PoliciesLaid, PlanLaid};
 
 // Is x among the n values of a kind at bit number `from`? Its bits are looked for among theirs.
 fn is_listed(s: &[u8], from: usize, n: u16, kind: u8, x: u64) -> bool
@@ -112,7 +112,7 @@ fn is_clause_met(
     s: &[u8],
     words: &[u16; 1024],
     slot: usize,
-    head: u32,
+    head: u64,
     kinds: &[u8; 24],
     present: &[u8; 24],
     values: &[u64; 24],
@@ -138,12 +138,11 @@ fn is_clause_met(
     true
 }
 
-// Is a head's guard met? Values are compared first: most often they tell.
-fn is_guard_met(head: u32, present: &[u8; 24], values: &[u64; 24]) -> bool
+// Is a guard met? Values are compared first: most often they tell.
+fn is_guard_met(guard: u64, present: &[u8; 24], values: &[u64; 24]) -> bool
     requires { ⌜ Cells (now present) (now values) ⌝ }
-    ensures { λ r. ⌜ r ≡ guardMet (held (now (present .entry)) (now (values .entry))) (guardOf head) ⌝ }
+    ensures { λ r. ⌜ r ≡ guardMet (held (now (present .entry)) (now (values .entry))) guard ⌝ }
 {
-    let guard = head / 4194304;
     let v = (guard % 32) as usize;
     let u = (guard / 32 % 32) as usize;
     if 24 <= v {
@@ -161,23 +160,62 @@ fn is_guard_met(head: u32, present: &[u8; 24], values: &[u64; 24]) -> bool
     false
 }
 
-// The first slot from `from` on whose guard is met, or `end`: no clause before it is met.
+// Is a head's sieve met? It needs no bit of the sheet.
+fn is_sieve_met(head: u64, present: &[u8; 24], values: &[u64; 24]) -> bool
+    requires { ⌜ Cells (now present) (now values) ⌝ }
+    ensures { λ r. ⌜ r ≡ sieveMet (held (now (present .entry)) (now (values .entry))) (sieveOf head) ⌝ }
+{
+    let sieve = head / 4294967296;
+    let v = (sieve % 32) as usize;
+    if 24 <= v {
+        return true;
+    }
+    if present[v] == 0 {
+        return false;
+    }
+    ((sieve / 32) >> (values[v] % 16)) % 2 == 1
+}
+
+// The first slot from `from` on with another guard, or `end`.
+fn past_guard(heads: &[u64; 128], from: usize, end: usize, guard: u64) -> usize
+    requires { ⌜ (from ≤ end) × (end ≤ 128) × (length (now heads) ≡ 128) ⌝ }
+    ensures { λ r. ⌜ (from ≤ r) × (r ≤ end) × ((k : ℕ) → from ≤ k → k < r → guardOf (getD (now (heads .entry)) k 0) ≡ guard) ⌝ }
+{
+    let mut k = from;
+    while k < end {
+        if heads[k] / 4194304 % 1024 == guard {
+            k += 1;
+            continue;
+        }
+        return k;
+    }
+    k
+}
+
+// The first slot from `from` on whose head is open, or `end`: no clause before it is met. Most clauses ask for the same tenant: where a guard is
+// not met, those behind it with the same guard are passed over.
 fn next_open(
-    heads: &[u32; 128],
+    heads: &[u64; 128],
     from: usize,
     end: usize,
     present: &[u8; 24],
     values: &[u64; 24],
 ) -> usize
     requires { ⌜ (from ≤ end) × (end ≤ 128) × (length (now heads) ≡ 128) × Cells (now present) (now values) ⌝ }
-    ensures { λ r. ⌜ (from ≤ r) × (r ≤ end) × ((k : ℕ) → from ≤ k → k < r → guardMet (held (now (present .entry)) (now (values .entry))) (guardOf (getD (now (heads .entry)) k 0)) ≡ false) ⌝ }
+    ensures { λ r. ⌜ (from ≤ r) × (r ≤ end) × Closed (held (now (present .entry)) (now (values .entry))) (now (heads .entry)) from r ⌝ }
 {
     let mut k = from;
     while k < end {
-        if is_guard_met(heads[k], present, values) {
-            return k;
+        let head = heads[k];
+        let guard = head / 4194304 % 1024;
+        if is_guard_met(guard, present, values) {
+            if is_sieve_met(head, present, values) {
+                return k;
+            }
+            k += 1;
+            continue;
         }
-        k += 1;
+        k = past_guard(heads, k + 1, end, guard);
     }
     k
 }
@@ -186,7 +224,7 @@ fn next_open(
 fn is_one_met(
     s: &[u8],
     words: &[u16; 1024],
-    heads: &[u32; 128],
+    heads: &[u64; 128],
     from: usize,
     end: usize,
     kinds: &[u8; 24],
@@ -216,7 +254,7 @@ fn wide(n: u8) -> usize
 fn are_all_met(
     s: &[u8],
     words: &[u16; 1024],
-    heads: &[u32; 128],
+    heads: &[u64; 128],
     counts: &[u8; 16],
     n: usize,
     kinds: &[u8; 24],
@@ -246,7 +284,7 @@ fn are_all_met(
 pub fn is_admitted(
     s: &[u8],
     words: &[u16; 1024],
-    heads: &[u32; 128],
+    heads: &[u64; 128],
     counts: &[u8; 16],
     some: usize,
     all: usize,

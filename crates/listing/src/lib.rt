@@ -53,7 +53,7 @@ fn copy(rows: &[u8], a: usize, e: usize, out: &mut [u8], at: usize)
 fn list(
     s: &[u8],
     words: &[u16; 1024],
-    heads: &[u32; 128],
+    heads: &[u64; 128],
     counts: &[u8; 16],
     plan: Plan,
     rows: &[u8],
@@ -117,7 +117,7 @@ fn list_for(
     if session_at(session, keys, &kinds, &mut present, &mut values) {
         if are_rows(rows, there, columns, &kinds) {
             let mut words = [0u16; 1024];
-            let mut heads = [0u32; 128];
+            let mut heads = [0u64; 128];
             let mut counts = [0u8; 16];
             let plan = lay_policies(s, d, book, t, command, &mut words, &mut heads, &mut counts);
             return list(

@@ -32,7 +32,7 @@ fn lay_policy(
     book: &[u32],
     p: usize,
     words: &mut [u16; 1024],
-    heads: &mut [u32; 128],
+    heads: &mut [u64; 128],
     slot: usize,
 ) -> usize
     requires { ⌜ (slot + 8 ≤ 128) × (length (now words) ≡ 1024) × (length (now heads) ≡ 128) ⌝ }
@@ -55,7 +55,7 @@ pub fn lay_policies(
     t: usize,
     command: u64,
     words: &mut [u16; 1024],
-    heads: &mut [u32; 128],
+    heads: &mut [u64; 128],
     counts: &mut [u8; 16],
 ) -> Plan
     requires { ⌜ (length (now words) ≡ 1024) × (length (now heads) ≡ 128) × (length (now counts) ≡ 16) ⌝ }

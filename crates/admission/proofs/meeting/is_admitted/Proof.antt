@@ -1,6 +1,5 @@
 -- `admission::meeting::is_admitted` meets its contract. "A row is admitted when a permissive policy is met and every restrictive one is met."
-use Rattle.rows.specs.Held.{held}
-use Rattle.admission.proofs.ManyLaws.{all-decide, none-admits}
+use Rattle.admission.proofs.ManyLaws.{second-decides, first-fails}
 use borrow.Author.Needs.{needs}
 use Rattle.admission.proofs.meeting.is_admitted.Statement.{statement}
 use Rattle.admission.proofs.meeting.is_admitted.Tie as tie
@@ -12,10 +11,10 @@ are-all-met-requires : tie.Need-are-all-met-requires
 are-all-met-requires c κs = search needs
 
 returns : tie.Need-returns
-returns c = λ kind cs ps K L. all-decide (held (c .before .before .before .before .args .present .now) (c .before .before .before .before .args .values .now)) cs ps (c .before .before .is-one-met .ensures kind cs K (L .permissive)) (c .before .if1 .taken) (c .are-all-met .ensures kind ps K (L .restrictive))
+returns c = λ kind cs ps K L. second-decides _ (c .before .before .is-one-met .ensures kind cs K (L .permissive)) (c .before .if1 .taken) (c .are-all-met .ensures kind ps K (L .restrictive))
 
 returns-2 : tie.Need-returns-2
-returns-2 c = λ kind cs ps K L. none-admits (held (c .before .before .before .args .present .now) (c .before .before .before .args .values .now)) cs ps (c .before .is-one-met .ensures kind cs K (L .permissive)) (c .if1 .left)
+returns-2 c = λ kind cs ps K L. first-fails _ (c .before .is-one-met .ensures kind cs K (L .permissive)) (c .if1 .left)
 
 pub is-admitted-spec : {M : Type 1} → statement M
 is-admitted-spec = tie.close (tie.spec is-one-met-requires are-all-met-requires returns returns-2)

@@ -18,14 +18,8 @@ Inv-loop s words slot head kinds present values n p₀ k₀ p k =
 abbrev μ-loop : tie.MeasureT-loop
 μ-loop s words slot head kinds present values n p₀ k₀ p k = n - k
 
-cast-n : tie.Need-cast-n Inv-loop μ-loop
-cast-n c = search needs
-
 returns : tie.Need-returns Inv-loop μ-loop
 returns c = λ kind d K L. absurd (let few = L .few in omega arith)
-
-cast-p : tie.Need-cast-p Inv-loop μ-loop
-cast-p c = search needs
 
 loop-holds : tie.Need-loop-holds Inv-loop μ-loop
 loop-holds c = (omega arith, omega arith, λ kind K. left-starts kind _ _ _ _ _ _)
@@ -77,9 +71,7 @@ is-clause-met-spec =
     (tie.spec
     Inv-loop
     μ-loop
-    cast-n
     returns
-    cast-p
     loop-holds
     mul-w
     add-w

@@ -6,12 +6,6 @@ use borrow.Author.Needs.{needs}
 use Rattle.admission.proofs.meeting.is_guard_met.Statement.{statement}
 use Rattle.admission.proofs.meeting.is_guard_met.Tie as tie
 
-cast-v : tie.Need-cast-v
-cast-v c = search needs
-
-cast-u : tie.Need-cast-u
-cast-u c = search needs
-
 returns : tie.Need-returns
 returns c = no-guard (c .before .args .present .now) (c .before .args .values .now) _ _ (c .if1 .taken)
 
@@ -49,8 +43,6 @@ pub is-guard-met-spec : {M : Type 1} → statement M
 is-guard-met-spec =
     tie.close
     (tie.spec
-    cast-v
-    cast-u
     returns
     returns-2
     mul-if3

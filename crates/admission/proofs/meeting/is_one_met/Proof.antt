@@ -1,4 +1,4 @@
--- `admission::meeting::is_one_met` meets its contract. No clause before the slot at hand is met: its guard is not, or the clause was tried.
+-- `admission::meeting::is_one_met` meets its contract. No clause before the slot at hand is met: its head is not open, or the clause was tried.
 use Prim.Native.Nat.{ℕ, _-_, _<_, _≤_}
 use native.Mathlib.Omega.{arith}
 use mathlib.Core.Path.{_≡_, sym}
