@@ -15,7 +15,7 @@ use script::number;
 use script::word_at;
 ghost use mathlib.Core.Path.{_≡_};
 ghost use lib.ListN.{length};
-ghost use Rattle.script.specs.Counts.{Counts};
+ghost use Rattle.io.specs.Counts.{Counts};
 
 // What every byte of a lent output is before a call.
 const FILL: u8 = 165;

@@ -16,7 +16,7 @@ ghost use Rattle.meaning.specs.ReadOut.{Line, ReadOut};
 ghost use Rattle.meaning.specs.Demands.{Accepted};
 ghost use Rattle.meaning.specs.ReadOut.{lifeText, isolationText};
 ghost use Rattle.text.specs.Wrote.{Wrote};
-ghost use Rattle.script.specs.Counts.{Counts};
+ghost use Rattle.io.specs.Counts.{Counts};
 ghost use Rattle.report.specs.Lines.{Writes, IsRest, Asked, FirstLines};
 ghost use Rattle.report.specs.Texts.{verdictsText, letterOf, headText, openingText, refusalText};
 

@@ -1,55 +1,57 @@
-use mathlib.Core.Path.{_≡_}
-use Prim.Native.Nat.{ℕ, _+_, _-_, _*_, _<_, _≤_}
-use native.Mathlib.Omega.{arith}
-use lib.ListN.{length}
+-- What is left of the word, counted from `to`, ends where it does counted from its first byte.
+use Prim.Native.Nat.{_+_, _-_, _≤_}
+use mathlib.Core.Path.{_≡_, sym, _∙_}
 use borrow.Author.Needs.{needs}
+use lib.ListN.{length, drop}
+use Rattle.script.specs.Words.{endsWord, wordLength}
+use Rattle.script.proofs.WordLaws.{past, here, later}
 use Rattle.script.proofs.word_at.Statement.{statement}
 use Rattle.script.proofs.word_at.Tie as tie
-use Rattle.script.proofs.word_at.Reads as reads
-use Rattle.script.proofs.word_at.Lts as lts
-use Rattle.script.proofs.parts.Reads as parts-reads
 
 abbrev Inv-loop : tie.InvT-loop
-Inv-loop s at all to₀ to = (all ≡ length s) × (at ≤ to) × (to ≤ all)
+Inv-loop s at all to₀ to = (all ≡ length s) × (at ≤ to) × (to ≤ all) × (to + wordLength (drop to s) ≡ at + wordLength (drop at s))
 
 abbrev μ-loop : tie.MeasureT-loop
 μ-loop s at all to₀ to = all - to
 
--- src/lib.rt:23:9
 returns : tie.Need-returns Inv-loop μ-loop
-returns c = search needs
+returns c =
+    let over = past endsWord 0 (c .before .before .args .s .now) (c .before .before .args .at) (c .if1 .taken) in
+    search needs
 
--- src/lib.rt:26:5
 loop-holds : tie.Need-loop-holds Inv-loop μ-loop
 loop-holds c = search needs
 
--- src/lib.rt:27:18
 shared-slice-read-parts : tie.Need-shared-slice-read-parts Inv-loop μ-loop
 shared-slice-read-parts c = search needs
 
--- src/lib.rt:27:12
 parts-requires : tie.Need-parts-requires Inv-loop μ-loop
 parts-requires c κs = search needs
 
--- src/lib.rt:28:13
 returns-2 : tie.Need-returns-2 Inv-loop μ-loop
-returns-2 c = search needs
+returns-2 c =
+    let s = c .before .before .before .before .before .before .before .args .s .now in
+    let to = c .before .before .before .before .loop .to in
+    let ends = here endsWord 0 s to (c .before .before .before .loop-test .taken) (sym (c .before .parts .ensures) ∙ c .if2 .taken) in
+    search needs
 
--- src/lib.rt:30:9
 add-to : tie.Need-add-to Inv-loop μ-loop
 add-to c = search needs
 
--- src/lib.rt:26:5
 loop-less : tie.Need-loop-less Inv-loop μ-loop
 loop-less c = search needs
 
--- src/lib.rt:26:5
 loop-again : tie.Need-loop-again Inv-loop μ-loop
-loop-again c = search needs
+loop-again c =
+    let s = c .before .before .before .before .before .before .before .args .s .now in
+    let to = c .before .before .before .before .loop .to in
+    let goes-on = later endsWord 0 s to (c .before .before .before .loop-test .taken) (sym (c .before .parts .ensures) ∙ c .if2 .left) in
+    search needs
 
--- src/lib.rt:18:1
 returns-3 : tie.Need-returns-3 Inv-loop μ-loop
-returns-3 c = search needs
+returns-3 c =
+    let over = past endsWord 0 (c .before .before .before .before .args .s .now) (c .before .loop .to) (search needs) in
+    search needs
 
 pub word-at-spec : {M : Type 1} → statement M
 word-at-spec =
