@@ -18,7 +18,7 @@ use Rattle.bits.proofs.SpellLaws.{spelled-none, spelled-later}
 use Rattle.meaning.specs.declared.Content.{Content}
 use Rattle.meaning.specs.declared.Content.the-variants.{Null, Value}
 use Rattle.meaning.specs.Values.{Kind, integer, token, boolean, raw, Contents}
-use Rattle.meaning.specs.Atoms.{in-list, among, passes, met}
+use Rattle.meaning.specs.Atoms.{in-list, passes, met}
 use Rattle.meaning.specs.Views.{operatorOf}
 use Rattle.rows.specs.Held.{held}
 use Rattle.admission.specs.Plan.{valueAt, valuesAt, operatorNumberOf, variableOf, otherOf, operatorOfWord, atomOfWord, hasResidue, isSifted, sieveBy, sieveMet}

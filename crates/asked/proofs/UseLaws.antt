@@ -1,15 +1,16 @@
 -- An accepted sheet's clauses have only variables that are there: those of the sheet, and, where a policy applies to a table, those that the
 -- table's rows and the sessions have. Free of code; assumes nothing.
-use Prim.Native.Nat.{ℕ, zero, suc, _+_, _<_}
+use Prim.Native.Nat.{ℕ, _+_, _<_}
 use native.Mathlib.Omega.{arith}
-use mathlib.Core.Path.{_≡_, refl, sym, _∙_, ap, subst}
+use mathlib.Core.Path.{_≡_, refl, sym, _∙_, ap}
 use mathlib.Core.Bool.{Bool, true, false, cond, _&&_}
 use mathlib.Core.List.{List, [], _∷_, _++_, map}
-use lib.ListN.{length, getD}
+use lib.ListN.{length}
 use lib.Dec.{ltb}
 use borrow.Author.Tests.{lt-ltb}
-use Rattle.lists.specs.Lists.{numbersFrom, every, keep, each, All}
+use Rattle.lists.specs.Lists.{every, keep, each, All}
 use Rattle.lists.proofs.BoolLaws.{both}
+use Rattle.lists.proofs.NumberLaws.{every-at}
 use Rattle.lists.proofs.OrderLaws.{all-map}
 use Rattle.meaning.specs.Atoms.{Operator, equals, in-list, not-in-list, order, is-null, is-not-null, Clause}
 use Rattle.meaning.specs.Sheets.{Table, Policy, Sheet, tableAt, policyAt, holds, matches, applies, permissive, restrictive, joined, choices, branches, second, columnsHeld, tablesServe}
@@ -25,12 +26,6 @@ module _ {A : Type 0} where
   every-all : (f : A → Bool) (xs : List A) → every f xs ≡ true → All (λ x. f x ≡ true) xs
   every-all f [] h = tt
   every-all f (x ∷ xs) h = let g = both (f x) (every f xs) h in (g .0, every-all f xs (g .1))
-
-every-at : (f : ℕ → Bool) (i n t : ℕ) → t < n → every f (numbersFrom i n) ≡ true → f (i + t) ≡ true
-every-at f i zero t l h = absurd (let q : ⊥ = omega arith in q)
-every-at f i (suc n) zero l h = subst (λ (k : ℕ). f k ≡ true) (let e : i ≡ i + 0 = omega arith in e) (both (f i) (every f (numbersFrom (i + 1) n)) h .0)
-every-at f i (suc n) (suc t) l h =
-    subst (λ (k : ℕ). f k ≡ true) (let e : i + 1 + t ≡ i + suc t = omega arith in e) (every-at f (i + 1) n t (omega arith) (both (f i) (every f (numbersFrom (i + 1) n)) h .1))
 
 -- an atom's variables are the sheet's
 variables : (facts : Sheet) (v : ℕ) (o : Operator) → IsVariable facts v → OperatorAllowed facts v o → All (IsVariable facts) (v ∷ second o)
@@ -79,14 +74,11 @@ table-used sheet h t l =
     (λ p g s m.
     all-both _ _ _ (clause-held sheet (tableAt sheet t)) (p .clauses) (g .4)
     (every-all (every λ a. every (λ v. cond (ltb v 16) (holds (tableAt sheet t) v) true) (a .variable ∷ second (a .operator))) (p .clauses)
-    (served p m (every-at (λ u. cond (matches u (tableAt sheet u) (p .selector)) (columnsHeld (tableAt sheet u) p) true) 0 (length (sheet .tables)) t l s))))
+    (served p m (every-at (λ u. cond (matches u (tableAt sheet u) (p .selector)) (columnsHeld (tableAt sheet u) p) true) 0 (length (sheet .tables)) t s (omega arith) (omega arith)))))
     (sheet .policies) (h .each-policy) (every-all _ (sheet .policies) (h .serves))
   where
-    served : (p : Policy) → matches t (tableAt sheet t) (p .selector) ≡ true → cond (matches (0 + t) (tableAt sheet (0 + t)) (p .selector)) (columnsHeld (tableAt sheet (0 + t)) p) true ≡ true → columnsHeld (tableAt sheet t) p ≡ true
-    served p m e =
-        let f : cond (matches t (tableAt sheet t) (p .selector)) (columnsHeld (tableAt sheet t) p) true ≡ true =
-        subst (λ (u : ℕ). cond (matches u (tableAt sheet u) (p .selector)) (columnsHeld (tableAt sheet u) p) true ≡ true) (let z : 0 + t ≡ t = omega arith in z) e in
-        sym (ap (λ (b : Bool). cond b (columnsHeld (tableAt sheet t) p) true) m) ∙ f
+    served : (p : Policy) → matches t (tableAt sheet t) (p .selector) ≡ true → cond (matches t (tableAt sheet t) (p .selector)) (columnsHeld (tableAt sheet t) p) true ≡ true → columnsHeld (tableAt sheet t) p ≡ true
+    served p m e = sym (ap (λ (b : Bool). cond b (columnsHeld (tableAt sheet t) p) true) m) ∙ e
 
 pub applied-used : (sheet : Sheet) → SheetAllowed sheet → (t command p : ℕ) → t < length (sheet .tables) → p < length (sheet .policies) → applies sheet t command (policyAt sheet p) ≡ true →
     All (Uses (holds (tableAt sheet t)) sheet) (policyAt sheet p .clauses)

@@ -1,7 +1,8 @@
-// Fields of 1..64 bits at any bit of bytes. Read: at a place (`field_at`) with the next place or refusal 2, or at a bit number
-// (`peek`, `peek64`), where bits past the end are 0; or a run of numbers is looked through for one (`spells`). Written: over any bits
-// (`put`), or behind the bits before, with zero bits to the end of the byte (`put_field`). It makes true "Bits are taken most significant
-// first" and "each field read moves it on" (01, "The packed sheet"). A read touches at most nine bytes, in a straight line. Stands on nothing.
+// Fields of 1..64 bits at any bit of bytes. Read: at a place (`field_at`) with the next place or refusal 2, or at a bit number (`peek`,
+// `peek64`, where bits past the end are 0; `within64`, where all are there); or a run of numbers is looked through for one (`spells`). Written:
+// over any bits (`put`), or behind the bits before, with zero bits to the end of the byte (`put_field`). It makes true "Bits are taken most
+// significant first" and "each field read moves it on" (01, "The packed sheet"). A read touches at most nine bytes, in a straight line. Stands
+// on nothing.
 ghost use mathlib.Core.Path.{_≡_};
 ghost use Prim.Native.Nat.{ℕ, _+_, _-_, _*_, _/_, _%_, _^_, _<_, _≤_, min};
 ghost use lib.ListN.{length, getD};
@@ -133,6 +134,20 @@ pub fn peek64(s: &[u8], p: usize) -> u64
     ensures { λ r. ⌜ r ≡ number (now (s .entry)) p 64 ⌝ }
 {
     word(s, p / 8, p % 8)
+}
+
+// The same where all 64 bits are there: no test of the end, so that a caller's loop holds it whole.
+pub fn within64(s: &[u8], p: usize) -> u64
+    requires { ⌜ p + 64 ≤ length (now s) * 8 ⌝ }
+    ensures { λ r. ⌜ r ≡ number (now (s .entry)) p 64 ⌝ }
+{
+    let byte = p / 8;
+    let bit = p % 8;
+    let first = eight(s, byte);
+    if bit < 1 {
+        return first;
+    }
+    moved(first, s[byte + 8], bit)
 }
 
 // The same of `width` bits.

@@ -9,7 +9,7 @@ use lib.Dec.{eqb}
 use lib.ListN.{length, getD, length-append}
 use borrow.Author.Tests.{eq-eqb, ne-eqb}
 use Rattle.meaning.specs.Atoms.{Clause}
-use Rattle.meaning.specs.Sheets.{joined, choices}
+use Rattle.meaning.specs.Sheets.{choices}
 use Rattle.branches.specs.Parts.{upTo, permitted, restricting, branchesOf, term, factor, sumTo, productTo, Sized}
 use Rattle.branches.proofs.JoinLaws.{nil-right, joined-length, choices-snoc}
 use Rattle.branches.proofs.PickLaws.{term-length}

@@ -1,7 +1,7 @@
 -- A branch number, written in the restrictive policies' own factors from the last to the first, picks the branch of that number.
 --     Going    how far `digits_of` has got: below place p nothing is picked yet, and `rest` is the number of the branch that is left
 --     Seek     how far `permitted_at` has got: `rest` is the number of the clause among those from place p on
-use Prim.Native.Nat.{ℕ, zero, suc, _+_, _*_, _-_, _/_, _%_, _<_, _≤_, min}
+use Prim.Native.Nat.{ℕ, suc, _+_, _-_, _/_, _%_, _<_, _≤_, min}
 use native.Mathlib.Omega.{arith}
 use native.Mathlib.Nat.{div-one, not-suc-le-zero}
 use native.Mathlib.Decide.{ℕ-discrete}
@@ -11,13 +11,12 @@ use mathlib.Core.List.{List, [], _∷_, _++_, append-assoc}
 use lib.Dec.{eqb}
 use lib.ListN.{length, getD, set, length-append, length-set, List·getD-append, List·getD-eq-default}
 use lib.Seq.{getD-append-add, getD-set-same, getD-set-other}
-use borrow.Author.Tests.{eq-eqb, ne-eqb, eqb-true, eqb-false}
+use borrow.Author.Tests.{eq-eqb, ne-eqb, eqb-true}
 use Rattle.meaning.specs.Atoms.{Clause}
 use Rattle.meaning.specs.Sheets.{joined, choices}
-use Rattle.branches.specs.declared.Branch.{Branch}
 use Rattle.branches.specs.declared.Digits.{Digits}
 use Rattle.branches.specs.declared.Permitted.{Permitted}
-use Rattle.branches.specs.Parts.{upTo, permits, restricts, permitted, restricting, branchesOf, term, factor, Sized, picked, besides, Splits, Finds, Picks}
+use Rattle.branches.specs.Parts.{upTo, permits, permitted, restricting, branchesOf, term, factor, Sized, picked, besides, Splits, Finds, Picks}
 use Rattle.branches.proofs.JoinLaws.{nil-right, joined-some, joined-front, joined-at, joined-assoc, joined-nothing, choices-snoc, onward, upTo-onward, onward-same, upTo-same}
 
 one-more : (p : ℕ) → p < 16 → 16 - p ≡ suc (16 - suc p)
@@ -133,9 +132,9 @@ module _ (roles counts : List ℕ) (k : ℕ) where
           subst (λ z. Rests roles clauses front k p (set slots p z) (rest / b)) (sym (en r))
           (rests-other roles clauses front k p slots rest b l (had .sixteen) r (eb (omega arith) ∙ q) (s p l .1) rests)
 
-  pub going-more : (p : ℕ) (slots : List ℕ) (rest f b x : ℕ) → 0 < p → p ≤ 16 → f ≡ factor (getD roles (p - 1) 0) (getD counts (p - 1) 0) → (0 < f → b ≡ f) →
-      (getD roles (p - 1) 0 ≡ 2 → x ≡ rest % b) → ((getD roles (p - 1) 0 ≡ 2 → ⊥) → x ≡ 8) → Going roles counts k p slots rest → Going roles counts k (p - 1) (set slots (p - 1) x) (rest / b)
-  going-more p slots rest f b x g l ef eb ed en had = going-suc (p - 1) slots rest f b x (omega arith) ef eb ed en (subst (λ z. Going roles counts k z slots rest) (omega arith) had)
+  pub going-more : (p : ℕ) (slots : List ℕ) (rest f b x next : ℕ) → 0 < p → p ≤ 16 → f ≡ factor (getD roles (p - 1) 0) (getD counts (p - 1) 0) → (0 < f → b ≡ f) →
+      (getD roles (p - 1) 0 ≡ 2 → x ≡ rest % b) → ((getD roles (p - 1) 0 ≡ 2 → ⊥) → x ≡ 8) → next ≡ rest / b → Going roles counts k p slots rest → Going roles counts k (p - 1) (set slots (p - 1) x) next
+  going-more p slots rest f b x next g l ef eb ed en is had = subst (Going roles counts k (p - 1) (set slots (p - 1) x)) (sym is) (going-suc (p - 1) slots rest f b x (omega arith) ef eb ed en (subst (λ z. Going roles counts k z slots rest) (omega arith) had))
 
   pub going-ends : (p : ℕ) (slots : List ℕ) (rest : ℕ) → p ≡ 0 → Going roles counts k p slots rest → Splits roles counts k (record { rest = rest; slots = slots })
   going-ends p slots rest e had =

@@ -4,17 +4,15 @@ use native.Mathlib.Omega.{arith}
 use native.Mathlib.Decide.{decLt}
 use mathlib.Core.Path.{_≡_, refl, sym, ap, subst, _∙_}
 use mathlib.Core.Bool.{Bool, true, false, cond, _&&_}
-use mathlib.Core.List.{List, [], _∷_, _++_, map, append-assoc}
+use mathlib.Core.List.{List, [], _∷_, _++_, map}
 use lib.ListN.{length, getD, List·getD-eq-default}
-use lib.Dec.{eqb}
-use Rattle.lists.specs.Lists.{keep, each, All}
+use Rattle.lists.specs.Lists.{keep, each}
 use Rattle.lists.proofs.ListLaws.{all-at}
-use Rattle.meaning.specs.Atoms.{Clause}
 use Rattle.meaning.specs.Sheets.{Policy, all, Sheet, policyAt, applies, permissive, restrictive, joined, choices, branches, branchCount}
 use Rattle.meaning.specs.Allowed.{factsOf, PolicyAllowed, SheetAllowed}
 use Rattle.meaning.proofs.BranchLaws.{branches-counted}
 use Rattle.branches.specs.Parts.{upTo, roleOf, permits, restricts, permitted, restricting, branchesOf, sumTo, productTo, Sized, RolesAre, CountsAre, clausesOf}
-use Rattle.branches.proofs.JoinLaws.{nil-right, onward, upTo-onward, upTo-same}
+use Rattle.branches.proofs.JoinLaws.{nil-right, onward, upTo-onward}
 use Rattle.branches.proofs.CountLaws.{branches-length}
 
 -- what f gives for each element stands in the order of the numbers

@@ -4,7 +4,7 @@
 // numbered from 0 in sheet order, the permissive clause varying slowest and the last restrictive policy fastest." Stands on meaning and sheet,
 // which say what roles and counts a sheet's policies have.
 ghost use mathlib.Core.Path.{_≡_};
-ghost use Prim.Native.Nat.{ℕ, _+_, _*_, _<_, _≤_, min};
+ghost use Prim.Native.Nat.{ℕ, _+_, _*_, _/_, _%_, _<_, _≤_, min};
 ghost use mathlib.Core.Bool.{cond};
 ghost use mathlib.Core.List.{List};
 ghost use lib.ListN.{length};
@@ -89,6 +89,27 @@ fn divisor(n: u64) -> u64
     n
 }
 
+// What is left of n by a divisor, and how often that goes into n. Division is slow and most divisors are 1, where there is nothing to divide.
+fn left_by(n: u64, b: u64) -> u64
+    requires { ⌜ 0 < b ⌝ }
+    ensures { λ r. ⌜ r ≡ n % b ⌝ }
+{
+    if b == 1 {
+        return 0;
+    }
+    n % b
+}
+
+fn over(n: u64, b: u64) -> u64
+    requires { ⌜ 0 < b ⌝ }
+    ensures { λ r. ⌜ r ≡ n / b ⌝ }
+{
+    if b == 1 {
+        return n;
+    }
+    n / b
+}
+
 // The slot of a policy at digit d: a clause number of a restrictive one, else none.
 fn slot(role: u64, d: u64) -> u64
     ensures { λ r. ⌜ ((role ≡ 2 → r ≡ d) × ((role ≡ 2 → ⊥) → r ≡ 8)) ⌝ }
@@ -110,8 +131,8 @@ fn digits_of(roles: [u64; 16], counts: [u64; 16], k: u64) -> Digits
         p -= 1;
         let role = roles[p];
         let b = divisor(factor_of(role, counts[p]));
-        slots[p] = slot(role, rest % b);
-        rest = rest / b;
+        slots[p] = slot(role, left_by(rest, b));
+        rest = over(rest, b);
     }
     Digits { rest, slots }
 }

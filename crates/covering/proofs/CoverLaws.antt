@@ -14,7 +14,7 @@ use Rattle.meaning.specs.Atoms.{Clause}
 use Rattle.meaning.specs.Sheets.{Sheet}
 use Rattle.meaning.specs.Reading.{found, clause}
 use Rattle.meaning.specs.Allowed.{factsOf}
-use Rattle.meaning.specs.Questions.{LiveClause, ClauseCovers, PolicyCovers}
+use Rattle.meaning.specs.Questions.{LiveClause, ClauseCovers}
 use Rattle.sheet.specs.declared.Directory.{Directory}
 use Rattle.sheet.specs.Directory.{policyCell}
 use Rattle.sheet.proofs.EntryLaws.{start-so, numbered-policy, count-so}

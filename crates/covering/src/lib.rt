@@ -14,17 +14,15 @@ use sheet::Directory;
 
 // Clause number k of policy p.
 pub fn clause_of(s: &[u8], d: Directory, book: &[u32], p: usize, k: usize) -> Clause
-    requires { ⌜ (p < 16) × (k < 8) ⌝ }
     ensures { λ r. ⌜ ((sheet : Sheet) → Read (now (s .entry)) d (now (book .entry)) sheet → p < length (sheet .policies) → k < length (clausesAt sheet p) → clauseOf r ≡ getD (clausesAt sheet p) k []) ⌝ }
 {
     let at = sheet::entries::start_of(book, p, k);
     let facts = d.facts;
-    sheet::clause_at(s, at, facts)
+    clauses::clause_at(s, at, facts)
 }
 
 // Is the clause covered by a single clause of policy a?
 fn covered(s: &[u8], d: Directory, book: &[u32], a: usize, q: Clause, top: [u64; 32]) -> bool
-    requires { ⌜ a < 16 ⌝ }
     ensures { λ r. ⌜ TellsCovered (now (s .entry)) d (now (book .entry)) top a (clauseOf q) r ⌝ }
 {
     let count = sheet::entries::count_of(book, a);
@@ -44,7 +42,6 @@ fn covered(s: &[u8], d: Directory, book: &[u32], a: usize, q: Clause, top: [u64;
 
 // Is the clause covered by a single clause of policy a, or met by no row and session?
 fn spared(s: &[u8], d: Directory, book: &[u32], a: usize, q: Clause, top: [u64; 32]) -> bool
-    requires { ⌜ a < 16 ⌝ }
     ensures { λ r. ⌜ TellsSpared (now (s .entry)) d (now (book .entry)) top a (clauseOf q) r ⌝ }
 {
     if asked::satisfiable(q, top) {
@@ -62,7 +59,6 @@ pub fn policy_covers(
     b: usize,
     top: [u64; 32],
 ) -> bool
-    requires { ⌜ (a < 16) × (b < 16) ⌝ }
     ensures { λ r. ⌜ TellsCovers (now (s .entry)) d (now (book .entry)) top a b r ⌝ }
 {
     let count = sheet::entries::count_of(book, b);

@@ -1,12 +1,12 @@
 -- The customer's demands, each a theorem about the calls that a host makes. The words in quotes are the customer's; `ListingNumbers` and its
 -- like (specs/Numbers.antt) are what each public call promises, for every input and with no precondition.
-use Prim.Native.Nat.{ℕ, _≤_}
+use Prim.Native.Nat.{ℕ}
 use mathlib.Core.Path.{_≡_}
 use mathlib.Core.Bool.{Bool}
 use mathlib.Core.Logic.{_↔_}
 use mathlib.Core.List.{List}
 use lib.ListN.{length, take}
-use Rattle.lists.specs.Lists.{any, All, Keeps}
+use Rattle.lists.specs.Lists.{any, Keeps}
 use Rattle.meaning.specs.Values.{Contents, with}
 use Rattle.meaning.specs.Atoms.{clauseMet}
 use Rattle.meaning.specs.Sheets.{Sheet, tableAt, policyAt, admits, branches, branchCount}

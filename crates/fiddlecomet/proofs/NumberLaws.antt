@@ -1,7 +1,7 @@
 -- Lengths and counts that fit are handed to the host whole.
 use Prim.Native.Nat.{ℕ}
 use mathlib.Core.Path.{_≡_, sym, ap, subst, _∙_}
-use mathlib.Core.List.{List, [], _∷_}
+use mathlib.Core.List.{[], _∷_}
 use Rattle.meaning.specs.declared.Listed.{Listed}
 use Rattle.meaning.specs.declared.Listed.the-variants.{Rows}
 use Rattle.meaning.specs.declared.Written.{Written}

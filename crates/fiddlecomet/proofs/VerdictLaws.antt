@@ -1,10 +1,10 @@
 -- What an answered verdict says: exactly the document's question, from the numbers that a host sees.
-use Prim.Native.Nat.{ℕ, _≤_}
+use Prim.Native.Nat.{ℕ}
 use native.Mathlib.Omega.{arith}
 use mathlib.Core.Path.{_≡_, refl, sym, ap, subst, _∙_}
 use mathlib.Core.Bool.{Bool, true, false, _&&_}
 use mathlib.Core.Logic.{_↔_}
-use mathlib.Core.List.{List, [], _∷_}
+use mathlib.Core.List.{List}
 use lib.ListN.{length}
 use lib.Dec.{ltb, leb}
 use Rattle.meaning.specs.declared.Life.{Life}
@@ -16,7 +16,7 @@ use Rattle.meaning.specs.declared.Cover.the-variants.{Covers, Misses}
 use Rattle.meaning.specs.declared.BranchCount.{BranchCount}
 use Rattle.meaning.specs.declared.BranchCount.the-variants.{Branches}
 use Rattle.meaning.specs.Sheets.{Sheet, policyAt, branchCount}
-use Rattle.meaning.specs.Reading.{Read, found, readSheet}
+use Rattle.meaning.specs.Reading.{readSheet}
 use Rattle.meaning.specs.Questions.{IsDead, IsIsolated, FirstLeak, PolicyCovers}
 use Rattle.meaning.specs.Replies.{Asked, asks, refuses, _>>=_, _>>_, need, whole, askedTable, askedVerdict, askedCovers, Replies, LifeOf, IsolationOf, CoverOf, lifeNumbers, isolationNumbers, coverNumbers, branchNumbers, DeadReply, IsolatedReply, CoversReply, BranchesReply}
 use Rattle.meaning.specs.Demands.{Accepted}

@@ -7,14 +7,12 @@ use mathlib.Core.Bool.{Bool, true, false, cond, _&&_}
 use mathlib.Core.List.{List, [], _∷_, _++_, map, append-nil}
 use lib.ListN.{length, getD, take, set}
 use lib.Seq.{take-suc, take-all, getD-set-same, getD-set-other}
-use lib.Dec.{eqb}
 use Rattle.lists.specs.Lists.{keep, each}
 use Rattle.lists.proofs.ListLaws.{each-append}
 use Rattle.meaning.specs.Values.{Kind}
 use Rattle.meaning.specs.Atoms.{Clause}
 use Rattle.meaning.specs.Sheets as m
 use Rattle.meaning.specs.Sheets.{Policy, Sheet, kindOf, policyAt, applies, permissive, restrictive}
-use Rattle.sheet.specs.Directory.{policyCell, PolicyAt}
 use Rattle.admission.specs.Plan.{ClauseLaid, ClausesLaid, slotOf, PoliciesLaid, PlanLaid, Outside}
 use Rattle.admission.proofs.PlanLaws.{clauses-kept, clauses-join, policies-more, policies-kept}
 
@@ -153,11 +151,3 @@ module _ (sheet : Sheet) (t command : ℕ) (s : List ℕ) (p : ℕ) (ws heads co
           restrictive = subst (PoliciesLaid (kindOf sheet) s after headsAfter counts all) (sym d)
               (policies-kept (kindOf sheet) s ws after heads headsAfter counts all (chosen sheet (restricts sheet t command) p) (omega arith) (λ j a b. w .above j (omega arith)) (λ j a b. v .above j (omega arith)) (g .restrictive));
         }
-
--- a policy's type and number of clauses, as the book has them
-module _ {s : List ℕ} {facts : Sheet} {x : Policy} {b : List ℕ} {p : ℕ} (P : PolicyAt s facts x b (48 + p * 12)) (h : p < 16) where
-  pub type-so : {r : Bool} → (p < 16 → r ≡ eqb (policyCell b p 0) 1) → r ≡ x .restrictive
-  type-so e = let z : 48 + p * 12 + 0 ≡ 48 + p * 12 = omega arith in e h ∙ ap (λ y. eqb (getD b y 0) 1) z ∙ P .restrictive
-
-  pub number-so : {n : ℕ} → (p < 16 → n ≡ policyCell b p 3) → n ≡ length (x .clauses)
-  number-so e = e h ∙ P .count

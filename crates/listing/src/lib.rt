@@ -5,7 +5,6 @@
 use admission::is_admitted;
 use meaning::Listed;
 use plans::lay_policies;
-use plans::up_to;
 use rows::Ended;
 use rows::are_rows;
 use rows::row_at;
@@ -13,6 +12,7 @@ use rows::session_at;
 use sheet::Directory;
 use sheet::Outcome;
 use sheet::entries::table_of;
+use sheet::entries::up_to;
 use sheet::read_sheet;
 ghost use mathlib.Core.Path.{_≡_};
 ghost use mathlib.Core.List.{List};

@@ -7,6 +7,7 @@ use sheet::applies;
 use sheet::entries::count_of;
 use sheet::entries::restrictive_of;
 use sheet::entries::start_of;
+use sheet::entries::up_to;
 ghost use mathlib.Core.Path.{_≡_};
 ghost use Prim.Native.Nat.{_+_, _*_, _≤_, _<_};
 ghost use lib.ListN.{length};
@@ -15,16 +16,6 @@ ghost use Rattle.meaning.specs.Sheets.{Sheet, kindOf};
 ghost use Rattle.sheet.specs.Directory.{PolicyAt, Described};
 ghost use Rattle.admission.specs.Plan.{ClausesLaid, Outside};
 ghost use Rattle.listing.specs.Ready.{PlanOf};
-
-// The smaller of two numbers; all that is there where there are few enough.
-pub fn up_to(most: usize, n: u64) -> usize
-    ensures { λ r. ⌜ (r ≤ most) × (n ≤ most → r ≡ n) ⌝ }
-{
-    if n < most as u64 {
-        return n as usize;
-    }
-    most
-}
 
 // Lays the clauses of policy p from a slot on; how many there are.
 fn lay_policy(

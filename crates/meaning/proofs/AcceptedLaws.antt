@@ -1,5 +1,5 @@
 -- In an accepted sheet a table's columns are columns of the sheet: so a table's row is a row.
-use Prim.Native.Nat.{ℕ, zero, suc, _+_, _-_, _/_, _%_, _^_, _<_, _≤_}
+use Prim.Native.Nat.{ℕ, zero, suc, _-_, _/_, _%_, _^_}
 use native.Mathlib.Nat.{zero-div}
 use native.Mathlib.Omega.{arith}
 use mathlib.Core.Path.{_≡_, refl, sym, ap, _∙_}
@@ -7,9 +7,9 @@ use mathlib.Core.Bool.{Bool, true, false, cond, _&&_, true≢false}
 use mathlib.Core.List.{List, [], _∷_}
 use lib.ListN.{length, getD}
 use lib.Dec.{ltb, eqb}
-use borrow.Author.Tests.{ltb-true, eqb-true, eqb-false}
+use borrow.Author.Tests.{ltb-true, eqb-true}
 use Rattle.meaning.specs.declared.Content.the-variants.{Null}
-use Rattle.lists.specs.Lists.{numbersFrom, every, All}
+use Rattle.lists.specs.Lists.{All}
 use Rattle.meaning.specs.Values.{Contents, with}
 use Rattle.meaning.specs.Sheets.{member, Table, Sheet, tableAt, holds, admits}
 use Rattle.meaning.specs.Allowed.{TableAllowed}
@@ -18,15 +18,8 @@ use Rattle.meaning.specs.Steps.{NormalSheet}
 use Rattle.meaning.specs.Demands.{Accepted}
 use Rattle.meaning.proofs.SheetLaws.{accepted-as}
 use Rattle.lists.proofs.BoolLaws.{both}
+use Rattle.lists.proofs.NumberLaws.{every-at}
 use Rattle.meaning.proofs.NormalLaws.{normal-admits-any}
-
-every-at : (f : ℕ → Bool) (i n c : ℕ) → every f (numbersFrom i n) ≡ true → i ≤ c → c < i + n → f c ≡ true
-every-at f i zero c e l h = absurd (omega arith)
-every-at f i (suc n) c e l h = go (eqb i c) refl (every-at f (i + 1) n c (both (f i) (every f (numbersFrom (i + 1) n)) e .1))
-  where
-    go : (b : Bool) → eqb i c ≡ b → (i + 1 ≤ c → c < i + 1 + n → f c ≡ true) → f c ≡ true
-    go true q ih = ap f (sym (eqb-true i c q)) ∙ both (f i) (every f (numbersFrom (i + 1) n)) e .0
-    go false q ih = let ne = eqb-false i c q in ih (omega (arith, ne)) (omega arith)
 
 held-below : (c : ℕ) (ts : List Table) → All (TableAllowed c) ts → (t i : ℕ) → holds (getD ts t (record { schema = 0; tags = 0; columns = 0 })) i ≡ true → ltb i c ≡ true
 held-below c [] h t i e = absurd (empty (ltb i 16) e)

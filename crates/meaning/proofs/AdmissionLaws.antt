@@ -1,14 +1,14 @@
 -- The definitions of admission mean what the document says of their edges; tightening a sheet never admits more.
 use Prim.Native.Nat.{ℕ}
 use mathlib.Core.Path.{_≡_, refl, sym, ap, _∙_}
-use mathlib.Core.Bool.{Bool, true, false, cond, _&&_, _||_, true≢false, or-true}
+use mathlib.Core.Bool.{Bool, true, false, cond, _&&_, _||_, or-true}
 use mathlib.Core.List.{List, [], _∷_, map}
 use lib.ListN.{getD}
 use Rattle.lists.specs.Lists.{every, any, keep}
 use Rattle.lists.proofs.BoolLaws.{both, join}
 use Rattle.meaning.specs.Values.{Contents}
-use Rattle.meaning.specs.Atoms.{Clause, clauseMet, policyMet}
-use Rattle.meaning.specs.Sheets.{Table, Policy, Sheet, tableAt, matches, member, applies, permissive, restrictive, admits}
+use Rattle.meaning.specs.Atoms.{clauseMet, policyMet}
+use Rattle.meaning.specs.Sheets.{Table, Policy, Sheet, matches, member, permissive, restrictive, admits}
 use Rattle.meaning.specs.Tightening.{Tightens, Tighter}
 
 -- "one without atoms is always met"

@@ -1,7 +1,7 @@
 -- What is asked is refused by a number from 1 on: so a host reads 0 as an answer, and nothing else.
 use Prim.Native.Nat.{ℕ, _≤_}
 use native.Mathlib.Omega.{arith}
-use mathlib.Core.Path.{_≡_, refl, sym, ap, subst, _∙_}
+use mathlib.Core.Path.{_≡_, refl}
 use mathlib.Core.Bool.{Bool, true, false, cond, _&&_}
 use mathlib.Core.List.{List}
 use lib.ListN.{length}
@@ -17,8 +17,7 @@ use Rattle.meaning.specs.declared.BranchCount.{BranchCount}
 use Rattle.meaning.specs.declared.BranchCount.the-variants.{Branches}
 use Rattle.meaning.specs.Sheets.{Sheet, tableAt, branchCount}
 use Rattle.meaning.specs.Packed.{packed}
-use Rattle.meaning.specs.Reading.{Read, found, refused, Row, readSheet, readSession, readRows}
-use Rattle.meaning.specs.Steps.{NormalSheet}
+use Rattle.meaning.specs.Reading.{Read, found, refused, readSheet, readSession, readRows}
 use Rattle.meaning.specs.Replies.{Asked, asks, refuses, _>>=_, _>>_, need, whole, formed, askedTable, askedVerdict, askedCovers, askedNormal, askedRows, Replies, rowBytes, over, LifeOf, IsolationOf, CoverOf, ListingReply, NormalFormReply, DeadReply, IsolatedReply, CoversReply, BranchesReply}
 use Rattle.meaning.proofs.NumberedLaws.{sheet-numbered}
 

@@ -1,8 +1,8 @@
 -- An atom is known by its bits: so sorting atoms by their bits drops only repeats.
 use Prim.Native.Nat.{ℕ, _≤_}
 use native.Mathlib.Omega.{arith}
-use mathlib.Core.Path.{_≡_, refl, sym, ap, subst, _∙_}
-use mathlib.Core.List.{List, [], _∷_, _++_}
+use mathlib.Core.Path.{_≡_, refl, sym, ap, _∙_}
+use mathlib.Core.List.{_++_}
 use lib.ListN.{length}
 use lib.Dec.{lit≤}
 use Rattle.lists.specs.Lists.{each}

@@ -1,21 +1,20 @@
 -- A listing's length and count are at most 65,536, a normal form's length at most 16,384: so a host's 32 bits hold them.
 use Prim.Native.Nat.{ℕ, zero, suc, _+_, _-_, _*_, _/_, _%_, _≤_}
 use native.Mathlib.Omega.{arith}
-use mathlib.Core.Path.{_≡_, refl, sym, ap, subst, _∙_}
+use mathlib.Core.Path.{_≡_, refl, ap, subst}
 use mathlib.Core.Bool.{Bool, true, false, cond}
 use mathlib.Core.List.{List, [], _∷_}
 use lib.ListN.{length, take, drop, length-append, length-take, length-drop}
-use lib.Dec.{leb, eqb, ltb}
+use lib.Dec.{leb, eqb}
 use borrow.Author.Tests.{leb-true}
-use Rattle.lists.specs.Lists.{keep, each}
+use Rattle.lists.specs.Lists.{keep}
 use Rattle.bits.specs.Bits.{number}
 use Rattle.meaning.specs.declared.Listed.{Listed}
 use Rattle.meaning.specs.declared.Listed.the-variants.{Rows}
 use Rattle.meaning.specs.declared.Written.{Written}
 use Rattle.meaning.specs.declared.Written.the-variants.{Length}
-use Rattle.meaning.specs.declared.Content.{Content}
 use Rattle.meaning.specs.declared.Content.the-variants.{Null, Value}
-use Rattle.meaning.specs.Values.{Kind, last, raw, Contents, with}
+use Rattle.meaning.specs.Values.{Kind, last, raw, with}
 use Rattle.meaning.specs.Sheets.{Table, Sheet, tableAt, admits, holds}
 use Rattle.meaning.specs.Packed.{packed}
 use Rattle.meaning.specs.Reading.{Read, found, refused, Reader, onRead, need, give, field, value, content, contents, padding, nothingMore, row, rows, Row, readRows, readSheet, readSession}

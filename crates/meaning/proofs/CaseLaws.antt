@@ -1,26 +1,25 @@
 -- The definitions give each marked case its answer. (01, "Marked cases")
-use Prim.Native.Nat.{ℕ, zero, suc, _+_, _-_, _^_, _<_, _≤_}
+use Prim.Native.Nat.{ℕ, zero, suc, _-_, _<_, _≤_}
 use native.Mathlib.Omega.{arith}
 use mathlib.Core.Path.{_≡_, refl, sym, ap, subst, _∙_}
-use mathlib.Core.Bool.{Bool, true, false, cond, not, _&&_, _||_, true≢false}
+use mathlib.Core.Bool.{Bool, true, false, _&&_, _||_, true≢false}
 use mathlib.Core.List.{List, [], _∷_}
-use lib.ListN.{length, getD}
+use lib.ListN.{getD}
 use lib.Dec.{ltb, leb, eqb, lit<, lit≤}
-use borrow.Author.Tests.{ltb-true, ltb-false, leb-true, eqb-true, eq-eqb, eqb-false}
+use borrow.Author.Tests.{ltb-true, leb-true, eqb-true, eq-eqb}
 use Rattle.meaning.specs.declared.Content.{Content}
 use Rattle.meaning.specs.declared.Content.the-variants.{Null, Value}
 use Rattle.meaning.specs.declared.Isolation.the-variants.{Isolated, Leaks}
-use Rattle.lists.specs.Lists.{any, All, One, Keeps, Prunes, Each}
+use Rattle.lists.specs.Lists.{any, One, Keeps, Prunes, Each}
 use Rattle.meaning.specs.Values.{Kind, last, integer, boolean, token, Contents, Fits, with, OtherTenant}
-use Rattle.meaning.specs.Atoms.{Operator, at-most, at-least, is-below, is-above, equals, in-list, not-in-list, order, is-null, Clause, isValue, passes, among, clauseMet, policyMet}
+use Rattle.meaning.specs.Atoms.{at-most, at-least, is-below, is-above, equals, in-list, not-in-list, order, Clause, isValue, passes, clauseMet, policyMet}
 use Rattle.meaning.specs.Sheets.{Policy, Sheet, permissive, admits, branches, holds, tableAt, tablesServe}
 use Rattle.bits.specs.Bits.{bits, spelled, bytesFrom, bytesOf, bitAt, number}
 use Rattle.meaning.specs.Packed.{sheetBits, packed}
-use Rattle.meaning.specs.Reading.{found, readSheet, field, count, kind, table, numberBelow, selectorNode, selector, variable, value, values, mate, operand, atom, clause, policy, padding, nothingMore, counts, tableFacts, sheetFields}
-use Rattle.meaning.specs.Questions.{Holds, IsRow, IsSession, IsAnyRow, Admitted, IsIsolated, Leak, FirstLeak, LiveClause, ClauseCovers}
+use Rattle.meaning.specs.Reading.{readSheet, field, count, kind, table, numberBelow, selectorNode, selector, variable, value, values, mate, operand, atom, clause, policy, padding, nothingMore, counts, tableFacts, sheetFields}
+use Rattle.meaning.specs.Questions.{IsRow, IsSession, IsAnyRow, Leak, LiveClause, ClauseCovers}
 use Rattle.meaning.specs.Steps.{on, tidied, NormalClauses}
-use Rattle.meaning.specs.Demands.{Accepted}
-use Rattle.meaning.specs.Cases.{null-x-hidden, any-row-admitted, none-admitted, becomes, verdict, x, f, t, key-0, int, permits, restricts, one, t-is-key-0, sheetOf, Says, Case, markedCases, MarkedCases}
+use Rattle.meaning.specs.Cases.{null-x-hidden, none-admitted, becomes, verdict, x, f, t, key-0, int, one, t-is-key-0, sheetOf, Says, markedCases, MarkedCases}
 
 -- contents written as a list, the first for number 0
 abbrev listed : List Content → Contents

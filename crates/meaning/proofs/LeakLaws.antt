@@ -1,15 +1,14 @@
 -- A table is isolated exactly when no pair of branches leaks.
 use Prim.Native.Nat.{ℕ, _<_}
-use mathlib.Core.Path.{_≡_, refl, sym, subst, _∙_}
+use mathlib.Core.Path.{_≡_, sym, _∙_}
 use mathlib.Core.Logic.{_↔_}
-use mathlib.Core.Bool.{Bool, true}
-use mathlib.Core.List.{List, []}
+use mathlib.Core.Bool.{true}
+use mathlib.Core.List.{[]}
 use lib.ListN.{length, getD}
-use Rattle.lists.specs.Lists.{any}
-use Rattle.meaning.specs.Values.{Contents, with, OtherTenant}
-use Rattle.meaning.specs.Atoms.{Clause, clauseMet}
+use Rattle.meaning.specs.Values.{Contents, with}
+use Rattle.meaning.specs.Atoms.{clauseMet}
 use Rattle.meaning.specs.Sheets.{Sheet, admits, branches}
-use Rattle.meaning.specs.Questions.{Admitted, IsIsolated, Leak}
+use Rattle.meaning.specs.Questions.{IsIsolated, Leak}
 use Rattle.lists.proofs.ListLaws.{any-at, any-where}
 use Rattle.meaning.proofs.BranchLaws.{branches-admit}
 

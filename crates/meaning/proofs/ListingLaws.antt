@@ -2,17 +2,17 @@
 use Prim.Native.Nat.{ℕ}
 use native.Mathlib.Omega.{arith}
 use mathlib.Core.Path.{_≡_, refl, sym, ap, subst, _∙_}
-use mathlib.Core.Bool.{Bool, true, false, cond, _&&_}
+use mathlib.Core.Bool.{Bool, true, false, _&&_}
 use mathlib.Core.List.{List, [], _∷_}
 use lib.ListN.{length}
 use lib.Dec.{ltb, leb}
 use Rattle.meaning.specs.declared.Listed.{Listed}
 use Rattle.meaning.specs.declared.Listed.the-variants.{Rows}
 use Rattle.lists.specs.Lists.{keep, All, Keeps}
-use Rattle.meaning.specs.Values.{Contents, with, OtherTenant}
-use Rattle.meaning.specs.Sheets.{Sheet, tableAt, admits, holds}
-use Rattle.meaning.specs.Reading.{Read, found, Row, readSheet, readSession, readRows}
-use Rattle.meaning.specs.Questions.{Holds, IsRow, IsSession, Admitted, IsIsolated}
+use Rattle.meaning.specs.Values.{Contents, with}
+use Rattle.meaning.specs.Sheets.{Sheet, tableAt, admits}
+use Rattle.meaning.specs.Reading.{found, Row, readSheet, readSession, readRows}
+use Rattle.meaning.specs.Questions.{IsRow, Admitted, IsIsolated}
 use Rattle.meaning.specs.Replies.{Asked, asks, refuses, _>>=_, _>>_, need, whole, formed, askedTable, askedRows, Replies, rowBytes, over, ListingReply}
 use Rattle.meaning.specs.Demands.{Accepted, OthersSee}
 use Rattle.lists.proofs.ListLaws.{keep-keeps, keep-struck}

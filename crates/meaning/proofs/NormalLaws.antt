@@ -1,20 +1,19 @@
 -- The six steps keep what a policy means, and so what a sheet admits.
 use Prim.Native.Nat.{ℕ, _-_, _^_, _≤_}
-use native.Mathlib.Omega.{arith}
-use mathlib.Core.Path.{_≡_, refl, sym, ap, subst, _∙_}
+use mathlib.Core.Path.{_≡_, refl, ap, subst, _∙_}
 use mathlib.Core.Bool.{Bool, true, false, cond, _&&_, _||_, or-true}
 use mathlib.Core.List.{List, [], _∷_, map}
-use lib.ListN.{length, getD}
+use lib.ListN.{getD}
 use lib.Dec.{ltb, lit≤}
 use native.Mathlib.Nat.{le-trans}
 use Rattle.meaning.specs.declared.Content.{Content}
-use Rattle.meaning.specs.declared.Content.the-variants.{Null, Value}
-use Rattle.lists.specs.Lists.{every, any, keep, All, One, Keeps, Prunes, Each, sort}
+use Rattle.meaning.specs.declared.Content.the-variants.{Value}
+use Rattle.lists.specs.Lists.{every, any, keep, All, One, Keeps, Each}
 use Rattle.meaning.specs.Values.{Kind, integer, token, boolean, last, Fits, Contents, with}
-use Rattle.meaning.specs.Atoms.{Atom, Clause, met, clauseMet, policyMet}
-use Rattle.meaning.specs.Sheets.{Policy, Sheet, kindOf, tableAt, matches, member, applies, permissive, restrictive, admits}
+use Rattle.meaning.specs.Atoms.{Clause, met, clauseMet, policyMet}
+use Rattle.meaning.specs.Sheets.{Policy, Sheet, kindOf, matches, member, applies, permissive, restrictive, admits}
 use Rattle.meaning.specs.Questions.{IsAnyRow, IsSession, LiveClause, ClauseCovers}
-use Rattle.meaning.specs.Steps.{tidied, NormalClause, clauseBefore, NormalClauses, NormalPolicy, NormalSheet}
+use Rattle.meaning.specs.Steps.{NormalClause, clauseBefore, NormalClauses, NormalPolicy, NormalSheet}
 use Rattle.lists.proofs.PruneLaws.{prunes-every, prunes-any, sort-any, keeps-any}
 use Rattle.lists.proofs.BoolLaws.{both}
 use Rattle.meaning.proofs.TidyLaws.{tidied-met}

@@ -1,16 +1,16 @@
 -- A refusal has a number: it is never 0, which a host reads as an answer.
 use Prim.Native.Nat.{ℕ, zero, suc, _+_, _-_, _*_, _%_, _≤_}
 use native.Mathlib.Omega.{arith}
-use mathlib.Core.Path.{_≡_, refl, sym, ap, subst}
+use mathlib.Core.Path.{_≡_, refl}
 use mathlib.Core.Bool.{Bool, true, false, cond, _&&_}
 use mathlib.Core.List.{List, [], _∷_}
-use lib.ListN.{length, getD}
+use lib.ListN.{length}
 use lib.Dec.{ltb, leb, eqb, lit≤}
-use Rattle.lists.specs.Lists.{All, numbersFrom, every}
+use Rattle.lists.specs.Lists.{numbersFrom, every}
 use Rattle.bits.specs.Bits.{number}
 use Rattle.meaning.specs.Values.{Kind, kindNumber, last, raw}
-use Rattle.meaning.specs.Sheets.{member, Table, Selector, Sheet, Policy, kindOf, tablesServe}
-use Rattle.meaning.specs.Atoms.{Operator, Atom, Clause}
+use Rattle.meaning.specs.Sheets.{member, Selector, Sheet, kindOf, tablesServe}
+use Rattle.meaning.specs.Atoms.{Operator}
 use Rattle.meaning.specs.Reading.{Read, found, refused, Reader, onRead, give, refuse, need, times, field, count, kind, table, numberBelow, selectorNode, selector, variable, value, values, mate, operand, atom, clause, policy, padding, nothingMore, Counts, counts, tableFacts, sheetFields, readSheet}
 use Rattle.meaning.proofs.CodecLaws.{refused-same, not-refused}
 

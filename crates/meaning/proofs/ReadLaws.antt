@@ -1,7 +1,6 @@
 -- What is read of a session or a row list holds null or a value of its kind.
 use Prim.Native.Nat.{ℕ, zero, suc, _+_, _-_, _*_, _/_, _≤_}
-use native.Mathlib.Nat.{add-zero, add-suc}
-use native.Mathlib.Numerals.{add-one}
+use native.Mathlib.Nat.{add-zero}
 use native.Mathlib.Omega.{arith}
 use mathlib.Core.Path.{_≡_, refl, sym, ap, subst, _∙_}
 use mathlib.Core.Bool.{Bool, true, false, cond, true≢false}
@@ -14,7 +13,7 @@ use Rattle.meaning.specs.declared.Content.the-variants.{Null, Value}
 use Rattle.lists.specs.Lists.{All}
 use Rattle.meaning.specs.Values.{Kind, integer, last, raw, Contents, Fits}
 use Rattle.meaning.specs.Sheets.{Table, Sheet, holds}
-use Rattle.meaning.specs.Reading.{Read, found, refused, Reader, onRead, give, refuse, need, field, value, content, contents, padding, nothingMore, Row, row, rows, readRows, readSession}
+use Rattle.meaning.specs.Reading.{Read, found, refused, onRead, give, need, field, value, content, contents, padding, nothingMore, Row, row, rows, readRows, readSession}
 use Rattle.meaning.specs.Questions.{Holds, IsSession}
 
 -- what a reading is made of was found

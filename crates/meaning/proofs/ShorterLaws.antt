@@ -1,5 +1,5 @@
 -- The normal form is no longer than its sheet: refusal 16 does not happen.
-use Prim.Native.Nat.{ℕ, suc, _+_, _*_, _≤_}
+use Prim.Native.Nat.{ℕ, _+_, _*_, _≤_}
 use native.Mathlib.Omega.{arith}
 use mathlib.Core.Path.{_≡_, refl, ap, _∙_}
 use mathlib.Core.Bool.{Bool, true, false, cond}
@@ -13,7 +13,7 @@ use Rattle.meaning.specs.Sheets.{Policy, Sheet, kindOf}
 use Rattle.bits.specs.Bits.{bits}
 use Rattle.meaning.specs.Packed.{valueBits, selectorBits, operatorNumber, operandBits, atomBits, clauseBits, policyBits, countBits, factBits, kindBits, tableBits, sheetBits, packed}
 use Rattle.meaning.specs.Steps.{on, oriented, orient, closed, tightened, tighten, isCommon, shared, merged, atomBefore, tidied, NormalClause, clauseBefore, NormalClauses, NormalPolicy, NormalSheet}
-use Rattle.lists.proofs.LengthLaws.{sub-length, ascend-length, sort-length, each-length}
+use Rattle.lists.proofs.LengthLaws.{sub-length, ascend-length}
 use Rattle.lists.proofs.SubLaws.{Sub, keeps-sub, prunes-sub}
 use Rattle.meaning.proofs.AgainLaws.{keep-sub}
 use Rattle.bits.proofs.BitLaws.{bits-length}

@@ -1,14 +1,14 @@
 -- Steps 2 to 4 keep what a live clause means.
-use Prim.Native.Nat.{ℕ, zero, suc, _+_, _-_, _^_, _<_, _≤_, min}
+use Prim.Native.Nat.{ℕ, _+_, _-_, _^_, _≤_, min}
 use native.Mathlib.Omega.{arith}
-use mathlib.Core.Path.{_≡_, refl, sym, ap, subst, _∙_}
+use mathlib.Core.Path.{_≡_, refl, sym, ap, _∙_}
 use mathlib.Core.Bool.{Bool, true, false, cond, not, _&&_, _||_, true≢false}
 use mathlib.Core.List.{List, [], _∷_, map}
 use lib.Dec.{ltb, leb, eqb}
 use borrow.Author.Tests.{ltb-true, ltb-false, leb-true, eqb-true, eq-eqb, lt-ltb, le-leb}
 use Rattle.meaning.specs.declared.Content.{Content}
 use Rattle.meaning.specs.declared.Content.the-variants.{Null, Value}
-use Rattle.lists.specs.Lists.{every, any, keep, ascend}
+use Rattle.lists.specs.Lists.{any, keep, ascend}
 use Rattle.lists.proofs.BoolLaws.{alike, both, join}
 use Rattle.meaning.specs.Values.{Kind, Contents}
 use Rattle.meaning.specs.Atoms.{Order, at-most, at-least, is-below, is-above, Operator, equals, in-list, not-in-list, order, is-null, is-not-null, Atom, Clause, among, isValue, passes, met, clauseMet}

@@ -1,7 +1,7 @@
 -- The read-out's sheet, by computing. (01, "The read-out")
 use Prim.Native.Nat.{ℕ}
 use mathlib.Core.Path.{_≡_, refl}
-use mathlib.Core.Bool.{Bool, true, false}
+use mathlib.Core.Bool.{true, false}
 use mathlib.Core.List.{List, [], _∷_, _++_}
 use Rattle.meaning.specs.Text.{ascii}
 use Rattle.meaning.specs.ReadOut.{decimalIn, decimal}
@@ -11,7 +11,7 @@ use Rattle.meaning.specs.Sheets.{Sheet, all, not, branches, branchCount,
 use Rattle.bits.specs.Bits.{bits, spelled, bytesFrom, bytesOf, bitAt, number}
 use Rattle.meaning.specs.Steps.{on}
 use Rattle.meaning.specs.Packed.{sheetBits, packed}
-use Rattle.meaning.specs.Reading.{Read, found, refused, readSheet, field, count, kind, table, numberBelow, selectorNode, selector, variable, value, values, mate, operand, atom, clause, policy, padding, nothingMore, counts, tableFacts, sheetFields}
+use Rattle.meaning.specs.Reading.{found, refused, readSheet, field, count, kind, table, numberBelow, selectorNode, selector, variable, value, values, mate, operand, atom, clause, policy, padding, nothingMore, counts, tableFacts, sheetFields}
 
 abbrev example : Sheet
 example =

@@ -1,5 +1,5 @@
 -- Atoms by value: what is among the first of some values, and when an atom by value is met.
-use Prim.Native.Nat.{ℕ, zero, suc, _<_, _≤_}
+use Prim.Native.Nat.{ℕ, zero, suc, _<_}
 use native.Mathlib.Omega.{arith}
 use mathlib.Core.Path.{_≡_, refl, sym, ap, _∙_}
 use mathlib.Core.Bool.{Bool, true, false, cond, _||_, or-true}
@@ -11,7 +11,7 @@ use Rattle.meaning.specs.declared.Content.{Content}
 use Rattle.meaning.specs.declared.Content.the-variants.{Null, Value}
 use Rattle.meaning.specs.declared.Atom.{Atom}
 use Rattle.meaning.specs.Values.{Contents}
-use Rattle.meaning.specs.Atoms.{at-most, at-least, is-below, is-above, Operator, equals, in-list, not-in-list, order, is-null, is-not-null, among, isValue, passes, met}
+use Rattle.meaning.specs.Atoms.{at-most, at-least, is-below, is-above, equals, in-list, not-in-list, order, is-null, is-not-null, among, isValue, passes, met}
 use Rattle.meaning.specs.Views.{testOf, operatorOf, operatorOfAtom, atomOf, valuePasses}
 
 -- one of the first `count` values is n

@@ -1,7 +1,7 @@
 -- The thirteen marked cases, as one table. (01, "Marked cases")
 use Prim.Native.Nat.{ℕ, _+_, _-_, _^_}
 use mathlib.Core.Path.{_≡_}
-use mathlib.Core.Bool.{Bool, true, false}
+use mathlib.Core.Bool.{true, false}
 use mathlib.Core.List.{List, [], _∷_}
 use Rattle.meaning.specs.declared.Content.the-variants.{Null}
 use Rattle.meaning.specs.declared.Isolation.{Isolation}

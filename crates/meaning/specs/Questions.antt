@@ -5,7 +5,6 @@ use mathlib.Core.Bool.{Bool, true, false}
 use mathlib.Core.List.{List, []}
 use lib.ListN.{length, getD}
 use lib.Dec.{ltb}
-use Rattle.meaning.specs.declared.Content.{Content}
 use Rattle.meaning.specs.declared.Content.the-variants.{Null}
 use Rattle.lists.specs.Lists.{All, One}
 use Rattle.meaning.specs.Values.{Kind, integer, Contents, Fits, with, OtherTenant}

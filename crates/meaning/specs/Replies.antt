@@ -1,7 +1,7 @@
 -- What each public call replies, and what its output holds then, for every input. (01, "Refusal numbers")
-use Prim.Native.Nat.{ℕ, _+_, _<_, _≤_}
+use Prim.Native.Nat.{ℕ, _+_}
 use mathlib.Core.Path.{_≡_}
-use mathlib.Core.Bool.{Bool, true, false, cond, _&&_}
+use mathlib.Core.Bool.{Bool, cond, _&&_}
 use mathlib.Core.List.{List, [], _∷_, _++_}
 use lib.ListN.{length, drop}
 use lib.Dec.{ltb, leb}
@@ -18,7 +18,7 @@ use Rattle.meaning.specs.declared.Cover.the-variants.{Covers, Misses}
 use Rattle.meaning.specs.declared.BranchCount.{BranchCount}
 use Rattle.meaning.specs.declared.BranchCount.the-variants.{Branches}
 use Rattle.lists.specs.Lists.{keep, each}
-use Rattle.meaning.specs.Values.{Contents, with}
+use Rattle.meaning.specs.Values.{with}
 use Rattle.meaning.specs.Sheets.{Sheet, tableAt, policyAt, admits, branchCount}
 use Rattle.meaning.specs.Packed.{packed}
 use Rattle.meaning.specs.Reading.{Read, found, refused, Row, readSheet, readSession, readRows}

@@ -6,7 +6,7 @@ use lib.ListN.{length, getD}
 use lib.Dec.{ltb, eqb}
 use Rattle.lists.specs.Lists.{numbersFrom, every, any, keep, each}
 use Rattle.meaning.specs.Values.{Kind, integer, Contents}
-use Rattle.meaning.specs.Atoms.{Operator, equals, in-list, not-in-list, order, is-null, is-not-null, Clause, clauseMet, policyMet}
+use Rattle.meaning.specs.Atoms.{Operator, equals, in-list, not-in-list, order, is-null, is-not-null, Clause, policyMet}
 
 -- "first bit of a set stands for number 0": is i in a set of `width` bits?
 abbrev pub member : ℕ → ℕ → ℕ → Bool

@@ -1,7 +1,7 @@
 -- The normal form. (01, "Normal form")
 use Prim.Native.Nat.{ℕ, _+_, _-_, _^_, min}
 use mathlib.Core.Path.{_≡_}
-use mathlib.Core.Bool.{Bool, true, false, cond, _&&_}
+use mathlib.Core.Bool.{Bool, true, cond}
 use mathlib.Core.List.{List, [], _∷_, map}
 use lib.Dec.{ltb, eqb}
 use Rattle.lists.specs.Lists.{every, keep, One, Keeps, Prunes, Each, ascend, sort, lexlt}

@@ -8,8 +8,8 @@ use Rattle.bits.specs.Bits.{bits}
 use Rattle.bits.proofs.PutFieldLaws.{holds-start}
 use Rattle.meaning.specs.Sheets.{Sheet}
 use Rattle.meaning.specs.Packed.{kindBits, tableBits, countBits, factBits}
-use Rattle.sheet.specs.declared.Facts.{Facts}
-use Rattle.sheet.specs.Directory.{FactsAre}
+use Rattle.clauses.specs.declared.Facts.{Facts}
+use Rattle.clauses.specs.Facts.{FactsAre}
 use Rattle.packing.specs.Wrote.{Wrote}
 
 -- nothing is written at first

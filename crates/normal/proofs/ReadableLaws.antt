@@ -7,11 +7,11 @@ use native.Mathlib.Omega.{arith}
 use native.Mathlib.Numerals.{add-one}
 use lib.ListN.{length, take, getD}
 use lib.Seq.{take-suc, take-all}
-use lib.Dec.{eqb, leb}
+use lib.Dec.{leb}
 use borrow.Author.Tests.{leb-true}
 use Rattle.bits.specs.Bits.{number, bits}
 use Rattle.meaning.specs.Atoms.{Clause}
-use Rattle.meaning.specs.Sheets.{Policy, Sheet, Selector, all, policyAt}
+use Rattle.meaning.specs.Sheets.{Sheet, Selector, all, policyAt}
 use Rattle.meaning.specs.Packed.{selectorBits}
 use Rattle.meaning.specs.Reading.{Read, found, refused, field, selector}
 use Rattle.meaning.specs.Allowed.{factsOf, PolicyAllowed}
@@ -22,13 +22,12 @@ use Rattle.meaning.proofs.FormLaws.{selector-reads}
 use Rattle.meaning.proofs.SheetLaws.{accepted-as}
 use Rattle.bits.specs.Fields.{placeAt}
 use Rattle.bits.specs.declared.Place.{Place}
-use Rattle.sheet.specs.declared.Facts.{Facts}
 use Rattle.sheet.specs.declared.Directory.{Directory}
-use Rattle.sheet.specs.declared.End.{End}
-use Rattle.sheet.specs.declared.End.the-variants.{At, Refused}
-use Rattle.sheet.specs.Ends.{Ends}
-use Rattle.sheet.proofs.TurnLaws.{ends-at, ends-refused}
-use Rattle.sheet.specs.Directory.{policyCell, Described}
+use Rattle.clauses.specs.declared.End.{End}
+use Rattle.clauses.specs.declared.End.the-variants.{At, Refused}
+use Rattle.clauses.specs.Ends.{Ends}
+use Rattle.clauses.proofs.TurnLaws.{ends-at, ends-refused}
+use Rattle.sheet.specs.Directory.{Described}
 use Rattle.sheet.proofs.EntryLaws.{numbered-policy}
 use Rattle.asked.specs.Asked.{Ranges}
 use Rattle.lists.proofs.ListLaws.{all-at}
@@ -89,17 +88,6 @@ readable s sheet d b top h a n r i l =
       allowed = all-at (PolicyAllowed (factsOf sheet)) (record { restrictive = false; commands = 0; selector = all; clauses = [] }) (sheet .policies) i l (acc .allowed .each-policy);
       fits = policy-used sheet (acc .allowed) i l;
     }
-
--- type, commands and selector of a policy, as its book tells them
-module _ {s : List ℕ} {sheet : Sheet} {f : Facts} {top : List ℕ} {x : Policy} {b : List ℕ} {k : ℕ} (R : Readable s sheet f top x b k) where
-  pub type-told : {r : Bool} → (k < 16 → r ≡ eqb (policyCell b k 0) 1) → r ≡ x .restrictive
-  type-told e = let z : 48 + k * 12 + 0 ≡ 48 + k * 12 = omega arith in e (R .there) ∙ ap (λ y. eqb (getD b y 0) 1) z ∙ R .at .restrictive
-
-  pub commands-told : {n : ℕ} → (k < 16 → n ≡ policyCell b k 1) → n ≡ x .commands
-  commands-told e = e (R .there) ∙ R .at .commands
-
-  pub selector-told : {n : ℕ} → (k < 16 → n ≡ policyCell b k 2) → (q : ℕ) × (selector 6 (factsOf sheet) s n ≡ found (x .selector) q)
-  selector-told e = let q = R .at .selector in (q .0, ap (selector 6 (factsOf sheet) s) (e (R .there)) ∙ q .1)
 
 -- one clause more is taken
 module _ (sheet : Sheet) (cs : List Clause) where

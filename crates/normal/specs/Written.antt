@@ -7,8 +7,9 @@ use Rattle.meaning.specs.Sheets.{Policy, Sheet, kindOf}
 use Rattle.meaning.specs.Packed.{policyBits}
 use Rattle.meaning.specs.Steps.{NormalPolicy}
 use Rattle.meaning.specs.Allowed.{factsOf, PolicyAllowed}
-use Rattle.sheet.specs.declared.Facts.{Facts}
-use Rattle.sheet.specs.Directory.{FactsAre, PolicyAt}
+use Rattle.clauses.specs.declared.Facts.{Facts}
+use Rattle.clauses.specs.Facts.{FactsAre}
+use Rattle.sheet.specs.Directory.{PolicyAt}
 use Rattle.pruned.specs.Pruned.{Known, Fits}
 use Rattle.packing.specs.Wrote.{Wrote}
 

@@ -17,19 +17,21 @@ ghost use Rattle.meaning.specs.Reading.{found, selector};
 ghost use Rattle.meaning.specs.Allowed.{factsOf, TableAllowed, SheetAllowed};
 ghost use Rattle.meaning.specs.Replies.{NormalFormReply};
 ghost use Rattle.meaning.specs.Demands.{Accepted};
-ghost use Rattle.sheet.specs.Directory.{tableOf, tableIn, FactsAre, PolicyAt, Described};
+ghost use Rattle.clauses.specs.Facts.{FactsAre};
+ghost use Rattle.sheet.specs.Directory.{tableOf, tableIn, PolicyAt, Described};
 ghost use Rattle.steps.specs.Lists.{kindBy};
 ghost use Rattle.pruned.specs.Pruned.{Known, Fits, clausesOf, chosen, Tidied};
 ghost use Rattle.packing.specs.Wrote.{Wrote, AllInFive};
 ghost use Rattle.normal.specs.Written.{Readable, PolicyWritten, PoliciesWritten};
 use bits::Place;
+use clauses::End;
+use clauses::Facts;
 use meaning::Written;
 use pruned::Clauses;
 use sheet::Directory;
-use sheet::End;
-use sheet::Facts;
 use sheet::Outcome;
 use sheet::Table;
+use sheet::entries::up_to;
 use steps::Values;
 
 // "each table: schema, tags, columns held"
@@ -55,16 +57,6 @@ fn write_tables(out: &mut [u8], p: usize, book: &[u32], n: usize) -> usize
     q
 }
 
-// A count, at most the most that there may be.
-fn at_most(n: u64, most: usize) -> usize
-    ensures { λ r. ⌜ (r ≤ most) × (n ≤ most → r ≡ n) ⌝ }
-{
-    if n < most as u64 {
-        return n as usize;
-    }
-    most
-}
-
 // "edition", "columns C, keys K, tables T, policies P"
 fn write_counts(out: &mut [u8], f: Facts, policies: u64) -> usize
     ensures { λ r. ⌜ ((sheet : Sheet) (o : List ℕ) → FactsAre sheet f → policies ≡ length (sheet .policies) → SheetAllowed sheet → o ≡ now (out .entry) → Wrote o (countBits sheet) (now (out .exit)) r) ⌝ }
@@ -83,9 +75,9 @@ fn write_facts(out: &mut [u8], d: Directory, book: &[u32]) -> usize
     let f = d.facts;
     let kinds = f.kinds;
     let a = write_counts(out, f, d.policies);
-    let b = packing::write_kinds(out, a, kinds, 0, at_most(f.columns, 16));
-    let c = packing::write_kinds(out, b, kinds, 16, at_most(f.keys, 8));
-    write_tables(out, c, book, at_most(f.tables, 16))
+    let b = packing::write_kinds(out, a, kinds, 0, up_to(16, f.columns));
+    let c = packing::write_kinds(out, b, kinds, 16, up_to(8, f.keys));
+    write_tables(out, c, book, up_to(16, f.tables))
 }
 
 // The bit number after the selector at bit number p.
@@ -131,7 +123,7 @@ fn gather(s: &[u8], book: &[u32], k: usize, f: Facts, top: [u64; 32]) -> Clauses
     let mut cs = pruned::none();
     let mut i = 0;
     while i < n {
-        let c = sheet::clause_at(s, sheet::entries::start_of(book, k, i), f);
+        let c = clauses::clause_at(s, sheet::entries::start_of(book, k, i), f);
         i += 1;
         // "Drop each clause that no row and session meets."
         if asked::satisfiable(c, top) {
@@ -202,7 +194,7 @@ fn write_policies(out: &mut [u8], p: usize, s: &[u8], d: Directory, book: &[u32]
     let f = d.facts;
     let kinds = f.kinds;
     let top = asked::tops(kinds);
-    let n = at_most(d.policies, 16);
+    let n = up_to(16, d.policies);
     let mut q = p;
     let mut i = 0;
     while i < n {

@@ -1,10 +1,9 @@
 -- The parts of an atom and of a clause, as their bits have them.
-use Prim.Native.Nat.{ℕ, zero, suc, _+_, _^_, _<_, min}
+use Prim.Native.Nat.{ℕ, _+_, _^_, _<_, min}
 use mathlib.Core.Path.{_≡_, sym, ap, subst, _∙_}
-use mathlib.Core.List.{List, [], _∷_, _++_}
+use mathlib.Core.List.{List, _++_}
 use native.Mathlib.Omega.{arith}
-use lib.ListN.{drop, getD}
-use Rattle.lists.specs.Lists.{All}
+use lib.ListN.{getD}
 use Rattle.bits.specs.Bits.{bits}
 use Rattle.meaning.specs.declared.Atom.{Atom}
 use Rattle.meaning.specs.Values.{Kind, integer, token, boolean, kindNumber}

@@ -18,7 +18,6 @@ use contract.Monad.{fact}
 use types.Kit.{Given, Item, mean, given, ‵, raw, _⊛_, ⋆, some, later, _$_, _∵_, !, qed, move, drop, keep, use1, use3, split, join, pick, fsplit, fjoin, fpick, fpack, await, updating, now as at-once, show, check, done}
 use types.SemTy.{Body}
 use types.Tokens.{lft-new, lft-end}
-use denote.RattleType.{owns}
 use denote.Laws.{Is, shows}
 use denote.Lend.{lends-ref, ref-back}
 use denote.Memory.{mem, cellAt, partAt, partOf}

@@ -1,8 +1,7 @@
 -- What the verdicts answer of a table and a command that an accepted sheet has.
 use Prim.Native.Nat.{ℕ, _<_, _≤_}
-use native.Mathlib.Omega.{arith}
-use mathlib.Core.Path.{_≡_, refl, sym, ap, subst, _∙_}
-use mathlib.Core.Bool.{Bool, true, false, _&&_}
+use mathlib.Core.Path.{_≡_, ap, subst, _∙_}
+use mathlib.Core.Bool.{_&&_}
 use mathlib.Core.List.{List}
 use lib.ListN.{length}
 use lib.Dec.{ltb, leb}
@@ -12,8 +11,7 @@ use Rattle.meaning.specs.declared.Isolation.{Isolation}
 use Rattle.meaning.specs.declared.BranchCount.{BranchCount}
 use Rattle.meaning.specs.declared.BranchCount.the-variants.{Branches}
 use Rattle.meaning.specs.Sheets.{Sheet, branchCount}
-use Rattle.meaning.specs.Reading.{found, readSheet}
-use Rattle.meaning.specs.Replies.{Asked, asks, need, whole, _>>=_, _>>_, askedTable, askedVerdict, Replies, LifeOf, IsolationOf, DeadReply, IsolatedReply, BranchesReply}
+use Rattle.meaning.specs.Replies.{asks, need, whole, _>>=_, _>>_, askedTable, askedVerdict, Replies, LifeOf, IsolationOf, DeadReply, IsolatedReply, BranchesReply}
 use Rattle.meaning.specs.Demands.{Accepted}
 
 module _ (s : List ℕ) (sheet : Sheet) (accepted : Accepted s sheet) (t command : ℕ) (there : t < length (sheet .tables)) (known : command ≤ 3) where

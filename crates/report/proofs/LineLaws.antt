@@ -1,16 +1,14 @@
 -- Lines of the read-out, written one after another.
-use Prim.Native.Nat.{ℕ, zero, suc, _+_, _*_, _/_, _%_, _<_, _≤_}
-use native.Mathlib.Nat.{add-zero}
-use native.Mathlib.Numerals.{add-one}
+use Prim.Native.Nat.{ℕ, _+_, _*_, _/_, _%_, _<_, _≤_}
 use native.Mathlib.Omega.{arith}
 use mathlib.Core.Path.{_≡_, refl, sym, ap, subst, _∙_}
-use mathlib.Core.Bool.{Bool, true, false, cond}
+use mathlib.Core.Bool.{cond}
 use mathlib.Core.List.{List, [], _∷_, _++_, append-assoc, append-nil}
 use lib.ListN.{length, take}
-use lib.Dec.{leb}
 use borrow.Author.Tests.{le-leb, lt-leb}
 use Rattle.lists.specs.Lists.{numbersFrom, each, Each}
 use Rattle.lists.proofs.ListLaws.{each-more}
+use Rattle.lists.proofs.NumberLaws.{numbers-more}
 use Rattle.meaning.specs.declared.Life.{Life}
 use Rattle.meaning.specs.declared.Isolation.{Isolation}
 use Rattle.meaning.specs.declared.BranchCount.{BranchCount}
@@ -19,10 +17,10 @@ use Rattle.meaning.specs.Sheets.{Sheet, branchCount}
 use Rattle.meaning.specs.Text.{ascii}
 use Rattle.meaning.specs.Replies.{DeadReply, IsolatedReply, BranchesReply}
 use Rattle.meaning.specs.Reading.{refused, readSheet}
-use Rattle.meaning.specs.ReadOut.{decimal, Verdicts, Line, Lines, Printed, ReadOut}
+use Rattle.meaning.specs.ReadOut.{decimal, Verdicts, Line, Printed, ReadOut}
 use Rattle.meaning.specs.Demands.{Accepted}
 use Rattle.text.specs.Wrote.{Wrote}
-use Rattle.text.proofs.WroteLaws.{wrote-none, wrote-then, wrote-as}
+use Rattle.text.proofs.WroteLaws.{wrote-none, wrote-then}
 use Rattle.meaning.proofs.SheetLaws.{accepted-as}
 use Rattle.sheet.specs.declared.Directory.{Directory}
 use Rattle.sheet.specs.Directory.{Found}
@@ -77,11 +75,6 @@ line-told s t command {b} {m} {n} {a} {at} {k} {j} {r} h f e sheet acc there kno
           };
     }
 
--- numbers from i on, one more at the end
-numbers-more : (i n : ℕ) → numbersFrom i (suc n) ≡ numbersFrom i n ++ ((i + n) ∷ [])
-numbers-more i zero = ap (λ x. x ∷ []) (sym (add-zero i))
-numbers-more i (suc n) = ap (λ x. i ∷ x) (numbers-more (i + 1) n ∙ ap (λ x. numbersFrom (i + 1) n ++ (x ∷ [])) (let o : i + 1 + n ≡ i + suc n = omega arith in o))
-
 joined : (ls : List (List ℕ)) (l : List ℕ) → each (λ x. x) (ls ++ (l ∷ [])) ≡ each (λ x. x) ls ++ l
 joined [] l = append-nil l
 joined (x ∷ ls) l = ap (λ y. x ++ y) (joined ls l) ∙ sym (append-assoc x (each (λ y. y) ls) l)
@@ -95,7 +88,7 @@ lines-more sheet n text line f l =
       lines = f .lines ++ (line ∷ []);
       each-line =
           subst (λ ks. Each (λ k x. Line sheet (k / 4) (k % 4) x) ks (f .lines ++ (line ∷ [])))
-          (sym (ap (numbersFrom 0) (add-one n) ∙ numbers-more 0 n ∙ ap (λ x. numbersFrom 0 n ++ (x ∷ [])) (let o : 0 + n ≡ n = omega arith in o)))
+          (sym (numbers-more n))
           (each-more _ _ l (f .each-line));
       text-is = ap (λ x. x ++ line) (f .text-is) ∙ sym (joined (f .lines) line);
     }

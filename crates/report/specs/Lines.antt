@@ -1,9 +1,9 @@
 -- What is written of each line of the read-out, for a sheet that is accepted. (01, "The read-out")
-use Prim.Native.Nat.{ℕ, _*_, _/_, _%_, _<_, _≤_}
+use Prim.Native.Nat.{ℕ, _/_, _%_, _<_, _≤_}
 use mathlib.Core.Path.{_≡_}
 use mathlib.Core.Bool.{cond}
-use mathlib.Core.List.{List, _++_}
-use lib.ListN.{length, take}
+use mathlib.Core.List.{List}
+use lib.ListN.{length}
 use lib.Dec.{leb}
 use Rattle.lists.specs.Lists.{numbersFrom, each, Each}
 use Rattle.meaning.specs.Sheets.{Sheet, branchCount}
@@ -11,7 +11,6 @@ use Rattle.meaning.specs.Text.{ascii}
 use Rattle.meaning.specs.ReadOut.{Verdicts, Line}
 use Rattle.meaning.specs.Demands.{Accepted}
 use Rattle.text.specs.Wrote.{Wrote}
-use Rattle.report.specs.Texts.{openingText}
 
 -- a text was written, of which P holds
 pub record Writes (P : List ℕ → Type 0) (before : List ℕ) (at : ℕ) (after : List ℕ) (r : ℕ) : Type 0 where

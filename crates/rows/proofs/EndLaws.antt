@@ -1,19 +1,17 @@
 -- Where contents and rows end, without what they hold.
-use Prim.Native.Nat.{ℕ, _+_, _-_, _*_, _/_, _%_, _^_, _<_, _≤_}
+use Prim.Native.Nat.{ℕ, _+_, _-_, _/_, _%_, _^_, _<_, _≤_}
 use native.Mathlib.Numerals.{add-one}
 use native.Mathlib.Omega.{arith}
 use mathlib.Core.Path.{_≡_, refl, sym, ap, subst, _∙_}
 use mathlib.Core.Bool.{Bool, true, false, cond}
-use mathlib.Core.List.{List, [], _∷_}
+use mathlib.Core.List.{List, _∷_}
 use lib.ListN.{length, getD, drop, drop-of-length-le}
 use lib.Seq.{drop-cons}
 use lib.Dec.{ltb}
-use borrow.Author.Tests.{ltb-true, ltb-false, lt-ltb, ne-eqb, eq-eqb}
-use Rattle.bits.specs.Bits.{number}
-use Rattle.bits.proofs.Laws.{number-lt}
+use borrow.Author.Tests.{ltb-true, lt-ltb, ne-eqb, eq-eqb}
 use Rattle.meaning.specs.declared.Content.{Content}
-use Rattle.meaning.specs.declared.Content.the-variants.{Null, Value}
-use Rattle.meaning.specs.Values.{Kind, integer, token, boolean, kindNumber, last, raw, Contents}
+use Rattle.meaning.specs.declared.Content.the-variants.{Null}
+use Rattle.meaning.specs.Values.{Kind, integer, token, boolean, kindNumber, last, raw}
 use Rattle.meaning.specs.Sheets.{Sheet, Table, holds}
 use Rattle.meaning.specs.Reading.{Read, found, refused, onRead, give, content, contents, padding, row}
 use Rattle.rows.specs.declared.ContentRead.{ContentRead}

@@ -1,24 +1,21 @@
 -- Contents one after another: what is read so far, what is still to be read, and what the arrays hold of it.
-use Prim.Native.Nat.{ℕ, zero, suc, _+_, _-_, _*_, _/_, _%_, _^_, _<_, _≤_}
-use native.Mathlib.Nat.{add-zero}
+use Prim.Native.Nat.{ℕ, _+_, _-_, _/_, _%_, _^_, _<_, _≤_}
 use native.Mathlib.Numerals.{add-one}
-use native.Mathlib.Decide.{decLt, ℕ-discrete}
+use native.Mathlib.Decide.{decLt}
 use native.Mathlib.Omega.{arith}
 use mathlib.Core.Path.{_≡_, refl, sym, ap, subst, _∙_}
-use mathlib.Core.Bool.{Bool, true, false, cond, _&&_}
+use mathlib.Core.Bool.{Bool, true, false, cond}
 use mathlib.Core.List.{List, [], _∷_, _++_, append-assoc, append-nil}
-use lib.ListN.{length, getD, take, drop, set, length-append, drop-of-length-le, List·getD-append, List·getD-eq-default}
-use lib.Seq.{drop-cons, getD-set-same, getD-set-other, getD-append-seam, append-snoc}
-use lib.Dec.{ltb, eqb}
+use lib.ListN.{length, getD, drop, set, length-append, drop-of-length-le, List·getD-append, List·getD-eq-default}
+use lib.Seq.{drop-cons, getD-set-same, getD-set-other, getD-append-seam}
+use lib.Dec.{eqb}
 use borrow.Author.Tests.{lt-ltb, eq-eqb, ne-eqb}
 use Rattle.meaning.specs.declared.Content.{Content}
 use Rattle.meaning.specs.declared.Content.the-variants.{Null, Value}
 use Rattle.meaning.specs.Values.{Kind, integer, kindNumber, Contents}
-use Rattle.meaning.specs.Sheets.{member}
-use Rattle.meaning.specs.Reading.{Read, found, refused, Reader, onRead, give, content, contents}
+use Rattle.meaning.specs.Reading.{Read, found, refused, onRead, give, content, contents}
 use Rattle.rows.specs.declared.ContentRead.{ContentRead}
 use Rattle.rows.specs.declared.ContentRead.the-variants.{Found, Lost}
-use Rattle.rows.specs.declared.Ended.{Ended}
 use Rattle.rows.specs.declared.Ended.the-variants as ended
 use Rattle.rows.specs.Held.{contentFound, held, Cells, Fields, Filled, ContentsRead}
 use Rattle.rows.proofs.ContentLaws.{found-of, lost-of}

@@ -3,7 +3,7 @@
 // true: "A session is, for each key ascending, one presence bit (0 is null) and, if that is 1, a value of its kind; zero bits fill the last
 // byte. A row is the same over the columns that its table holds". Stands on bits, meaning and values; specs/Held.antt says what an answer
 // stands for.
-use bits::peek64;
+use bits::within64;
 use meaning::Content;
 use values::last_of;
 use values::raw_of;
@@ -59,7 +59,7 @@ pub fn content_at(s: &[u8], p: usize, kind: u8) -> ContentRead
     if s.len() < (p + 72) / 8 {
         return ContentRead::Lost;
     }
-    let v = raw_of(kind, peek64(s, p + 1));
+    let v = raw_of(kind, within64(s, p + 1));
     if v <= last_of(kind) {
         return ContentRead::Found(Content::Value(v), p + 65);
     }
@@ -183,7 +183,7 @@ fn content_end(s: &[u8], p: usize, kind: u8) -> Ended
     if kind == 0 {
         return Ended::At(p + 65);
     }
-    if raw_of(kind, peek64(s, p + 1)) <= last_of(kind) {
+    if raw_of(kind, within64(s, p + 1)) <= last_of(kind) {
         return Ended::At(p + 65);
     }
     Ended::Lost

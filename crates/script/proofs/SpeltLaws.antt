@@ -4,7 +4,7 @@ use native.Mathlib.Numerals.{add-one}
 use native.Mathlib.Omega.{arith}
 use mathlib.Core.Path.{_≡_, refl}
 use mathlib.Core.List.{List, [], _∷_}
-use lib.ListN.{length, take, drop, getD, length-take, length-drop, drop-of-length-le}
+use lib.ListN.{length, take, getD, length-take, length-drop, drop-of-length-le}
 use lib.Seq.{slice, drop-cons, getD-take}
 use Rattle.script.specs.Spelt.{decimalDigit, hexDigit, digitsBehind, hexBytes}
 

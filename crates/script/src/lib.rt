@@ -5,7 +5,7 @@ ghost use Prim.Native.Nat.{_+_, _≤_, _<_, min};
 ghost use lib.ListN.{length, getD, drop};
 ghost use lib.Seq.{slice};
 ghost use Rattle.io.specs.Counts.{Counts};
-ghost use Rattle.script.specs.Words.{endsLine, endsWord, wordLength, lineLength};
+ghost use Rattle.script.specs.Words.{endsWord, wordLength, lineLength};
 ghost use Rattle.script.specs.Spelt.{decimalDigit, hexDigit, decimalOf, hexBytes, Filled};
 
 // A word stands from `from` up to `to`.
@@ -58,13 +58,6 @@ pub fn first(s: &[u8], w: Word) -> u8
 {
     let from = w.from;
     if from < s.len() { s[from] } else { 0 }
-}
-
-// Does a line end at a place? (The end of the text ends one too.)
-pub fn line_ends(s: &[u8], at: usize) -> bool
-    ensures { λ r. ⌜ r ≡ endsLine (getD (now (s .entry)) at 10) ⌝ }
-{
-    if at < s.len() { s[at] == 10 } else { true }
 }
 
 // The place behind a line.

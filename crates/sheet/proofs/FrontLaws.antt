@@ -7,7 +7,6 @@ use mathlib.Core.Bool.{true, false}
 use mathlib.Core.List.{List, [], _∷_, _++_}
 use lib.ListN.{length, getD, set, length-append, length-set, List·getD-append}
 use lib.Seq.{getD-set-same, getD-set-other, getD-append-add}
-use lib.Dec.{ltb}
 use borrow.Author.Tests.{lt-ltb, le-ltb}
 use Rattle.bits.specs.Fields.{bitNo, fieldAt}
 use Rattle.bits.specs.declared.Place.{Place}
@@ -19,7 +18,7 @@ use Rattle.meaning.specs.Sheets.{Table}
 use Rattle.meaning.specs.Allowed.{heldBelow}
 use Rattle.meaning.specs.Reading.{Read, found, refused, field, kind, table}
 use Rattle.sheet.specs.Directory.{tableIn}
-use Rattle.sheet.specs.Ends.{numbered}
+use Rattle.clauses.specs.Ends.{numbered}
 use Rattle.sheet.specs.Fronts.{KindsPut, TablesIn}
 
 -- kinds, by their numbers

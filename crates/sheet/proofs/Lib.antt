@@ -1,6 +1,3 @@
-pub mod FieldLaws
-pub mod TurnLaws
-pub mod AtomLaws
 pub mod SelectorLaws
 pub mod EntryLaws
 pub mod FrontLaws

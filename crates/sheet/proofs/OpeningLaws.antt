@@ -7,9 +7,8 @@ use mathlib.Core.List.{List, []}
 use lib.ListN.{length, getD, replicate, List·getD-eq-default}
 use Rattle.meaning.specs.Values.{Kind, integer, kindNumber}
 use Rattle.meaning.specs.Sheets as sheets
-use Rattle.meaning.specs.Reading.{Read, found, refused, onRead, kind, table, tableFacts, times}
+use Rattle.meaning.specs.Reading.{found, refused, onRead, kind, table, tableFacts, times}
 use Rattle.meaning.specs.Reading as m
-use Rattle.sheet.specs.declared.Facts.{Facts}
 use Rattle.sheet.specs.Fronts.{CountsAre, KindsPut, TablesIn, FrontIs}
 use Rattle.sheet.specs.declared.Counts.{Counts}
 

@@ -17,8 +17,9 @@ use Rattle.meaning.specs.Sheets.{Sheet, Selector, all}
 use Rattle.meaning.specs.Sheets as sheets
 use Rattle.meaning.specs.Reading.{found, refused, onRead, field, count, selector, selectorNode, clause, policy, times}
 use Rattle.meaning.proofs.ReadLaws.{read-split}
-use Rattle.sheet.specs.Directory.{PolicyAt}
-use Rattle.sheet.specs.Fronts.{KeptBelow, StartsAt, PoliciesIn}
+use Rattle.clauses.specs.declared.Facts.{Facts}
+use Rattle.sheet.specs.Directory.{tableIn, PolicyAt}
+use Rattle.sheet.specs.Fronts.{FrontIs, KeptBelow, StartsAt, PoliciesIn}
 
 -- what is found begins within the bytes
 field-inside : (w : ℕ) (s : List ℕ) (p v o : ℕ) → field w s p ≡ found v o → p ≤ length s * 8
@@ -90,6 +91,13 @@ kept-set n b i v h = record { length = length-set b i v; cells = λ j l. getD-se
 
 pub kept-then : {n m : ℕ} {a b c : List ℕ} → KeptBelow n a b → n ≤ m → KeptBelow m b c → KeptBelow n a c
 kept-then K h L = record { length = L .length ∙ K .length; cells = λ i l. L .cells i (omega arith) ∙ K .cells i l }
+
+-- a table whose cells are kept is the same table
+pub table-kept : {n : ℕ} {b after : List ℕ} → KeptBelow n b after → (t : ℕ) → 3 * t + 2 < n → tableIn after t ≡ tableIn b t
+table-kept K t h = λ i. record { schema = K .cells (3 * t) (omega arith) i; tags = K .cells (3 * t + 1) (omega arith) i; columns = K .cells (3 * t + 2) h i }
+
+pub front-kept : {f : Facts} {b e : List ℕ} {facts : Sheet} {n : ℕ} → 48 ≤ n → KeptBelow n b e → FrontIs f b facts → FrontIs f e facts
+front-kept {n = n} h K F = record { facts = F .facts; few = F .few; tables = λ t l. table-kept K t (omega (arith, F .few)) ∙ F .tables t l; bare = F .bare }
 
 -- one more of what stands by number: R relates a number to the item at that number
 grown : {A : Type 0} (R : ℕ → A → Type 0) (xs : List A) (i : ℕ) (a d : A) → length xs ≡ i

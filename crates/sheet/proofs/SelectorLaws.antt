@@ -2,28 +2,27 @@
 use Prim.Native.Nat.{ℕ, suc, _+_, _-_, _*_, _^_, _<_, _≤_}
 use native.Mathlib.Decide.{decLe}
 use native.Mathlib.Omega.{arith}
-use mathlib.Core.Path.{_≡_, refl, sym, ap, _∙_}
+use mathlib.Core.Path.{_≡_, refl, ap, _∙_}
 use mathlib.Core.Bool.{Bool, true, false, cond, _&&_, _||_}
 use mathlib.Core.Bool as bool
 use mathlib.Core.List.{List}
 use lib.ListN.{length}
-use lib.Dec.{leb, eqb}
-use borrow.Author.Tests.{leb-true}
+use lib.Dec.{leb}
 use Rattle.bits.specs.Bits.{number}
-use Rattle.bits.specs.Fields.{placeAt, codeOf}
+use Rattle.bits.specs.Fields.{codeOf}
 use Rattle.bits.specs.declared.Place.{Place}
 use Rattle.bits.specs.declared.Field.{Field}
 use Rattle.bits.specs.declared.Field.the-variants as field
 use Rattle.bits.proofs.Laws.{number-lt}
-use Rattle.meaning.specs.Sheets.{Table, Selector, all, has-column, in-schema, table-number, tag-number, and, or, not, Sheet, matches}
+use Rattle.meaning.specs.Sheets.{Selector, all, has-column, in-schema, table-number, tag-number, and, or, not, Sheet}
 use Rattle.meaning.specs.Reading.{Read, found, refused, Reader, onRead, numberBelow, selectorNode, selector}
 use Rattle.meaning.specs.Reading as reading
 use Rattle.values.specs.Reads.{fieldOf}
 use Rattle.values.proofs.ReadLaws.{found-by, refused-by}
-use Rattle.sheet.specs.declared.End.{End}
-use Rattle.sheet.specs.declared.End.the-variants.{At, Refused}
-use Rattle.sheet.specs.Ends.{Got, Ends, ended}
-use Rattle.sheet.proofs.TurnLaws.{field-stops, ends-by, ends-map, ends-lost}
+use Rattle.clauses.specs.declared.End.{End}
+use Rattle.clauses.specs.declared.End.the-variants.{At, Refused}
+use Rattle.clauses.specs.Ends.{Ends, ended}
+use Rattle.clauses.proofs.TurnLaws.{field-stops}
 
 -- a field of w bits is below 2^w, and its bits are there
 pub field-small : (w : ℕ) (s : List ℕ) (p v o : ℕ) → reading.field w s p ≡ found v o → v < 2 ^ w

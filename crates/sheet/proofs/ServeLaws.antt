@@ -1,23 +1,26 @@
 -- A loop over `every`, and refusal 11 piece by piece.
-use Prim.Native.Nat.{ℕ, zero, suc, _+_, _<_, _≤_}
+use Prim.Native.Nat.{ℕ, zero, suc, _+_, _-_, _/_, _%_, _^_, _<_, _≤_}
 use native.Mathlib.Omega.{arith}
+use native.Mathlib.Decide.{decLt}
 use native.Mathlib.Nat.{add-zero}
 use native.Mathlib.Numerals.{add-one}
 use mathlib.Core.Path.{_≡_, refl, sym, ap, _∙_}
 use mathlib.Core.Bool.{Bool, true, false, cond, _&&_}
-use mathlib.Core.List.{List, [], _∷_, _++_}
-use lib.ListN.{length, getD, drop, take, drop-of-length-le}
+use mathlib.Core.List.{List, _∷_}
+use lib.ListN.{length, getD, drop, drop-of-length-le}
 use lib.Seq.{drop-cons}
 use lib.Dec.{ltb, eqb}
-use borrow.Author.Tests.{lt-ltb, le-ltb, ne-eqb}
+use lib.Bits.{bitAnd, and-mod, and-shr, and-zero-l, and-zero-r, and-self}
+use borrow.Author.Tests.{lt-ltb, le-ltb}
 use Rattle.lists.specs.Lists.{numbersFrom, every}
-use Rattle.lists.proofs.BoolLaws.{every-append}
+use Rattle.lists.proofs.BoolLaws.{every-more, every-true, every-both}
+use Rattle.lists.proofs.NumberLaws.{numbers-more, every-at}
 use Rattle.meaning.specs.declared.Atom.{Atom}
 use Rattle.meaning.specs.Atoms as m
-use Rattle.meaning.specs.Sheets.{Sheet, member, second, matches, tableAt, tablesServe}
+use Rattle.meaning.specs.Sheets.{Sheet, member, second, matches, tableAt, columnsHeld}
 use Rattle.meaning.specs.Sheets as sheets
-use Rattle.meaning.specs.Views.{atomOf}
-use Rattle.sheet.specs.Fronts.{columnHeld, atomHeld, tableServes, policyServes}
+use Rattle.clauses.specs.Facts.{columnHeld, atomHeld}
+use Rattle.sheet.specs.Fronts.{tableServes, Shared}
 
 -- so far every one passed
 module _ {A : Type 0} (f : A → Bool) (xs : List A) where
@@ -58,48 +61,6 @@ module _ (f : ℕ → Bool) (n i : ℕ) (h : i < n) (e : every f (numbersFrom 0 
 pub numbers-pass : (f : ℕ → Bool) (n i : ℕ) → n ≤ i → every f (numbersFrom 0 n) ≡ every f (drop i (numbersFrom 0 n)) → every f (numbersFrom 0 n) ≡ true
 numbers-pass f n i h e = passed-all f (numbersFrom 0 n) i (omega (arith, numbers-length 0 n)) e
 
-and-last : (p q : Bool) → (p && q) ≡ (p && (q && true))
-and-last true true = refl
-and-last true false = refl
-and-last false q = refl
-
--- one more is tested
-pub every-more : {A : Type 0} (f : A → Bool) (xs : List A) (a : A) {x y : Bool} → x ≡ every f xs → y ≡ f a → (x && y) ≡ every f (xs ++ (a ∷ []))
-every-more f xs a {x} {y} e h = rw (e, h) (and-last (every f xs) (f a) ∙ sym (every-append f xs (a ∷ [])))
-
--- an atom's variables
-module _ (columns : ℕ) (a : Atom) where
-  pub both-held : {x y : Bool} → a .operator < 1 → x ≡ columnHeld columns (a .variable) → y ≡ columnHeld columns (a .other) → (x && y) ≡ atomHeld columns (atomOf a)
-  unfolding atomOf
-  both-held {x} {y} h e f = let z : a .operator ≡ 0 = omega arith in rw (z, e, f) (and-last (columnHeld columns (a .variable)) (columnHeld columns (a .other)))
-
-  none-second : (b c d e f g h : Bool) (n : ℕ) (ns : List ℕ) →
-      second (cond b (m.in-list ns) (cond c (m.not-in-list ns) (cond d (m.order m.at-most n) (cond e (m.order m.at-least n) (cond f (m.order m.is-below n) (cond g (m.order m.is-above n) (cond h m.is-null m.is-not-null))))))) ≡ []
-  none-second true c d e f g h n ns = refl
-  none-second false true d e f g h n ns = refl
-  none-second false false true e f g h n ns = refl
-  none-second false false false true f g h n ns = refl
-  none-second false false false false true g h n ns = refl
-  none-second false false false false false true h n ns = refl
-  none-second false false false false false false true n ns = refl
-  none-second false false false false false false false n ns = refl
-
-  pub one-held : {x : Bool} → 1 ≤ a .operator → x ≡ columnHeld columns (a .variable) → x ≡ atomHeld columns (atomOf a)
-  unfolding atomOf
-  one-held {x} h e =
-      rw (ne-eqb (a .operator) 0 (λ z. omega arith), none-second (eqb (a .operator) 1) (eqb (a .operator) 2) (eqb (a .operator) 3) (eqb (a .operator) 4) (eqb (a .operator) 5) (eqb (a .operator) 6) (eqb (a .operator) 7) (getD (a .values) 0 0) (take (a .count) (a .values))) (e ∙ go (columnHeld columns (a .variable)))
-    where
-      go : (p : Bool) → p ≡ (p && true)
-      go true = refl
-      go false = refl
-
--- a column below 16 is looked up, a key is not
-pub held-column : {x : Bool} (columns v : ℕ) → v < 16 → x ≡ member 16 columns v → x ≡ columnHeld columns v
-held-column columns v h e = e ∙ sym (ap (λ b. cond b (member 16 columns v) true) (lt-ltb v 16 h))
-
-pub held-key : (columns v : ℕ) → 16 ≤ v → true ≡ columnHeld columns v
-held-key columns v h = simp (le-ltb v 16 h)
-
 -- a held column is below c
 abbrev pub below-test : ℕ → ℕ → ℕ → Bool
 below-test c columns i = cond (member 16 columns i) (ltb i c) true
@@ -114,16 +75,63 @@ module _ (c columns i : ℕ) {x : Bool} (e : x ≡ member 16 columns i) where
   pub not-held : x ≡ false → below-test c columns i ≡ true
   not-held t = let m : member 16 columns i ≡ false = sym e ∙ t in rw m
 
--- a table and a policy
-module _ (sheet : Sheet) (x : sheets.Policy) (t : ℕ) {a : Bool} (e : a ≡ matches t (tableAt sheet t) (x .selector)) where
-  pub serves-matched : {r : Bool} {columns : ℕ} → a ≡ true → r ≡ every (every (atomHeld columns)) (x .clauses) → columns ≡ tableAt sheet t .columns → r ≡ tableServes sheet x t
-  serves-matched {r} {columns} h f g =
-      let m : matches t (tableAt sheet t) (x .selector) ≡ true = sym e ∙ h in
-      rw m (f ∙ ap (λ z. every (every (atomHeld z)) (x .clauses)) g)
+-- a set shared by two sets
+bit-both : (x y : ℕ) → eqb (bitAnd x y % 2) 1 ≡ (eqb (x % 2) 1 && eqb (y % 2) 1)
+bit-both x y = ap (λ n. eqb n 1) (and-mod x y 1) ∙ go (x % 2) (y % 2) (omega arith) (omega arith)
+  where
+    go : (m n : ℕ) → m < 2 → n < 2 → eqb (bitAnd m n) 1 ≡ (eqb m 1 && eqb n 1)
+    go zero n h l = ap (λ k. eqb k 1) (and-zero-l n)
+    go (suc zero) zero h l = ap (λ k. eqb k 1) (and-zero-r 1)
+    go (suc zero) (suc zero) h l = ap (λ k. eqb k 1) (and-self 1)
+    go (suc zero) (suc (suc n)) h l = absurd (omega arith)
+    go (suc (suc m)) n h l = absurd (omega arith)
 
-  pub serves-unmatched : a ≡ false → true ≡ tableServes sheet x t
-  serves-unmatched h = let m : matches t (tableAt sheet t) (x .selector) ≡ false = sym e ∙ h in rw m
+module _ (a b : ℕ) where
+  column-both : (v : ℕ) → columnHeld (bitAnd a b) v ≡ (columnHeld a v && columnHeld b v)
+  column-both v =
+      ap (λ n. cond (ltb v 16) (ltb v 16 && eqb (n % 2) 1) true) (and-shr a b (15 - v))
+      ∙ ap (λ c. cond (ltb v 16) (ltb v 16 && c) true) (bit-both (a / 2 ^ (15 - v)) (b / 2 ^ (15 - v)))
+      ∙ go (ltb v 16) (eqb (a / 2 ^ (15 - v) % 2) 1) (eqb (b / 2 ^ (15 - v) % 2) 1)
+    where
+      go : (c x y : Bool) → cond c (c && (x && y)) true ≡ (cond c (c && x) true && cond c (c && y) true)
+      go true x y = refl
+      go false x y = refl
 
-pub serves-so : (sheet : Sheet) {r : Bool} → r ≡ every (policyServes sheet) (sheet .policies) → r ≡ tablesServe sheet
-unfolding tablesServe
-serves-so sheet e = e
+  clauses-both : (cs : List (List m.Atom)) → every (every (atomHeld (bitAnd a b))) cs ≡ (every (every (atomHeld a)) cs && every (every (atomHeld b)) cs)
+  clauses-both =
+      every-both (every (atomHeld a)) (every (atomHeld b)) (every (atomHeld (bitAnd a b)))
+      (every-both (atomHeld a) (atomHeld b) (atomHeld (bitAnd a b)) λ x. every-both (columnHeld a) (columnHeld b) (columnHeld (bitAnd a b)) column-both (x .variable ∷ second (x .operator)))
+
+-- a set of all columns
+every-column : (v : ℕ) → columnHeld 65535 v ≡ true
+every-column v = go (decLt v 16)
+  where
+    go : Dec (v < 16) → columnHeld 65535 v ≡ true
+    go (yes l) = ap (λ b. cond b (member 16 65535 v) true) (lt-ltb v 16 l) ∙ every-at (member 16 65535) 0 16 v refl (omega arith) (omega arith)
+    go (no l) = ap (λ b. cond b (member 16 65535 v) true) (le-ltb v 16 (omega arith))
+
+-- the columns that tables share: none asked, one more that is matched or not
+module _ (facts : Sheet) (x : sheets.Selector) where
+  pub shared-none : Shared facts x 0 65535
+  shared-none p e = every-true (every (atomHeld 65535)) (every-true (atomHeld 65535) λ a. every-true (columnHeld 65535) every-column (a .variable ∷ second (a .operator))) (p .clauses)
+
+  module _ (t columns : ℕ) (h : Shared facts x t columns) {matched : Bool} (e : matched ≡ matches t (tableAt facts t) x) where
+    pub shared-matched : (more : ℕ) → matched ≡ true → more ≡ tableAt facts t .columns → Shared facts x (t + 1) (bitAnd columns more)
+    shared-matched more i g p s =
+        clauses-both columns more (p .clauses)
+        ∙ every-more (tableServes facts p) (numbersFrom 0 t) t (h p s) (
+        let k : matches t (tableAt facts t) (p .selector) ≡ true = ap (matches t (tableAt facts t)) s ∙ sym e ∙ i in
+        ap (λ z. every (every (atomHeld z)) (p .clauses)) g ∙ sym (ap (λ b. cond b (columnsHeld (tableAt facts t) p) true) k))
+        ∙ sym (ap (every (tableServes facts p)) (numbers-more t))
+
+    pub shared-unmatched : matched ≡ false → Shared facts x (t + 1) columns
+    shared-unmatched i p s =
+        and-true (every (every (atomHeld columns)) (p .clauses))
+        ∙ every-more (tableServes facts p) (numbersFrom 0 t) t (h p s) (
+        let k : matches t (tableAt facts t) (p .selector) ≡ false = ap (matches t (tableAt facts t)) s ∙ sym e ∙ i in
+        sym (ap (λ b. cond b (columnsHeld (tableAt facts t) p) true) k))
+        ∙ sym (ap (every (tableServes facts p)) (numbers-more t))
+      where
+        and-true : (b : Bool) → b ≡ (b && true)
+        and-true true = refl
+        and-true false = refl

@@ -8,20 +8,22 @@ use mathlib.Core.List.{List, []}
 use lib.ListN.{length, getD, List·getD-eq-default}
 use lib.Dec.{leb, eqb}
 use borrow.Author.Tests.{le-leb, lt-leb, eq-eqb}
+use Rattle.lists.specs.Lists.{every}
 use Rattle.bits.specs.Bits.{bitAt, number}
 use Rattle.bits.specs.declared.Place.{Place}
 use Rattle.meaning.specs.Sheets.{Sheet, tablesServe}
 use Rattle.meaning.specs.Sheets as sheets
 use Rattle.meaning.specs.Reading.{Read, found, refused, onRead, counts, tableFacts, policy, padding, nothingMore, sheetFields, readSheet, times}
 use Rattle.meaning.specs.Reading as m
-use Rattle.sheet.specs.declared.Facts.{Facts}
-use Rattle.sheet.specs.declared.End.{End}
-use Rattle.sheet.specs.declared.End.the-variants as end
+use Rattle.clauses.specs.declared.Facts.{Facts}
+use Rattle.clauses.specs.declared.End.{End}
+use Rattle.clauses.specs.declared.End.the-variants as end
 use Rattle.sheet.specs.declared.Outcome.{Outcome}
 use Rattle.sheet.specs.declared.Outcome.the-variants as outcome
 use Rattle.sheet.specs.declared.Directory.{Directory}
-use Rattle.sheet.specs.Directory.{tableIn, PolicyAt, Described, Outcomes}
-use Rattle.sheet.specs.Fronts.{FrontIs, KeptBelow, PoliciesIn, Closes, FieldsRead}
+use Rattle.sheet.specs.Directory.{PolicyAt, Described, Outcomes}
+use Rattle.sheet.specs.Fronts.{FrontIs, KeptBelow, PoliciesIn, policyServes, Closes}
+use Rattle.sheet.proofs.PolicyLaws.{table-kept}
 
 -- past the end there are zero bits
 number-past : (s : List ℕ) (p w : ℕ) → length s * 8 ≤ p → number s p w ≡ 0
@@ -110,10 +112,6 @@ module _ (s : List ℕ) where
         pub fields-found : Closes s d true → sheetFields s 0 ≡ found (wholly facts ps) (d + (8 - d % 8) % 8)
         fields-found e = ending ∙ rw e
 
--- a table whose cells are kept is the same table
-table-kept : {n : ℕ} {b after : List ℕ} → KeptBelow n b after → (t : ℕ) → 3 * t + 2 < n → tableIn after t ≡ tableIn b t
-table-kept K t h = λ i. record { schema = K .cells (3 * t) (omega arith) i; tags = K .cells (3 * t + 1) (omega arith) i; columns = K .cells (3 * t + 2) h i }
-
 -- what was read is described: the policies stand after the tables in the book
 pub described-so : {s : List ℕ} {facts : Sheet} {ps : List sheets.Policy} {f : Facts} {count : ℕ} {b after : List ℕ} → FrontIs f b facts → KeptBelow 48 b after → PoliciesIn s facts after ps → count ≡ length ps
     → count ≤ 16 → Described s (wholly facts ps) (record { facts = f; policies = count }) after
@@ -154,23 +152,11 @@ refused-same {w} {k} {n} e h = let same : k ≡ n = cc in ap outcome.Refused sam
 pub refused-never : {X : Type 0} {w : End} {q : Place} {n : ℕ} → w ≡ end.At q → w ≡ end.Refused n → X
 refused-never e h = let z : _≡_ {A = ℕ} 0 1 = cc in absurd (omega arith)
 
--- what reading answers, by its outcome
-module _ (s : List ℕ) (d : Directory) (b : List ℕ) (o : Outcome) where
-  pub fields-lost : {n : ℕ} → o ≡ outcome.Refused n → sheetFields s 0 ≡ refused n → FieldsRead s d b o
-  fields-lost e h = subst (FieldsRead s d b) (sym e) h
+-- a refusal by its outcome
+pub sheet-refused : (s : List ℕ) (d : Directory) (b : List ℕ) (o : Outcome) {n : ℕ} → o ≡ outcome.Refused n → readSheet s ≡ refused n → Outcomes s d b o
+sheet-refused s d b o e h = subst (Outcomes s d b) (sym e) h
 
-  pub sheet-refused : {n : ℕ} → o ≡ outcome.Refused n → readSheet s ≡ refused n → Outcomes s d b o
-  sheet-refused e h = subst (Outcomes s d b) (sym e) h
-
-  module _ (short : length s ≤ 16384) (F : FieldsRead s d b o) where
-    pub fields-refused : {n : ℕ} → o ≡ outcome.Refused n → Outcomes s d b o
-    fields-refused e = sheet-refused e (sheet-lost s short (subst (FieldsRead s d b) e F))
-
-    module _ (e : o ≡ outcome.Accepted) {r : Bool} (S : (sheet : Sheet) → Described s sheet d b → r ≡ tablesServe sheet) where
-      pub accepted-so : r ≡ true → Outcomes s d b o
-      accepted-so t =
-          let x = subst (FieldsRead s d b) e F in
-          subst (Outcomes s d b) (sym e) (record { sheet = x .0; end = x .1; read = sheet-served s short (x .2) (sym (S (x .0) (x .3)) ∙ t); described = x .3 })
-
-      pub unserved-so : r ≡ false → readSheet s ≡ refused 11
-      unserved-so t = let x = subst (FieldsRead s d b) e F in sheet-unserved s short (x .2) (sym (S (x .0) (x .3)) ∙ t)
+-- whether the tables serve, told of the facts that stand before the policies
+pub served-so : (facts : Sheet) (ps : List sheets.Policy) {r : Bool} → r ≡ every (policyServes facts) ps → r ≡ tablesServe (wholly facts ps)
+unfolding tablesServe
+served-so facts ps e = e

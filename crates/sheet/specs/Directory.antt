@@ -8,8 +8,7 @@ use Rattle.meaning.specs.Sheets as m
 use Rattle.meaning.specs.Sheets.{Sheet, tableAt, policyAt}
 use Rattle.meaning.specs.Reading.{found, refused, selector, clause, readSheet}
 use Rattle.meaning.specs.Allowed.{factsOf}
-use Rattle.meaning.specs.Views.{KindsAre}
-use Rattle.sheet.specs.declared.Facts.{Facts}
+use Rattle.clauses.specs.Facts.{FactsAre}
 use Rattle.sheet.specs.declared.Table.{Table}
 use Rattle.sheet.specs.declared.Directory.{Directory}
 use Rattle.sheet.specs.declared.Reading.{Reading}
@@ -26,13 +25,6 @@ tableIn b t = record { schema = getD b (3 * t) 0; tags = getD b (3 * t + 1) 0; c
 
 abbrev pub policyCell : List ℕ → ℕ → ℕ → ℕ
 policyCell b p j = getD b (48 + p * 12 + j) 0
-
--- the counts and kinds of a sheet
-pub record FactsAre (sheet : Sheet) (f : Facts) : Type 0 where
-  pub columns : f .columns ≡ length (sheet .columns)
-  pub keys : f .keys ≡ length (sheet .keys)
-  pub tables : f .tables ≡ length (sheet .tables)
-  pub kinds : KindsAre sheet (f .kinds)
 
 -- a policy's fields from cell `from` of a book on, and where its selector and each of its clauses are read; they are read by the sheet's facts
 pub record PolicyAt (s : List ℕ) (facts : Sheet) (p : m.Policy) (b : List ℕ) (from : ℕ) : Type 0 where

@@ -2,22 +2,19 @@
 use Prim.Native.Nat.{ℕ, _+_, _-_, _*_, _%_, _<_, _≤_}
 use mathlib.Core.Path.{_≡_}
 use mathlib.Core.Bool.{Bool, true, false, cond}
-use mathlib.Core.List.{List, [], _∷_}
+use mathlib.Core.List.{List, []}
 use lib.ListN.{length, getD}
 use Rattle.meaning.specs.Values.{Kind, integer, kindNumber}
 use Rattle.meaning.specs.Reading as m
-use Rattle.meaning.specs.Reading.{found, refused, onRead, clause, padding, nothingMore, sheetFields}
+use Rattle.meaning.specs.Reading.{found, refused, onRead, clause, padding, nothingMore}
 use Rattle.meaning.specs.Atoms.{Atom}
 use Rattle.meaning.specs.Sheets as sheets
-use Rattle.meaning.specs.Sheets.{Sheet, member, second, matches, all, tableAt, columnsHeld}
+use Rattle.meaning.specs.Sheets.{Sheet, Selector, matches, all, tableAt, columnsHeld}
 use Rattle.meaning.specs.Allowed.{factsOf}
 use Rattle.lists.specs.Lists.{numbersFrom, every}
-use lib.Dec.{ltb}
-use Rattle.sheet.specs.declared.Facts.{Facts}
-use Rattle.sheet.specs.declared.Directory.{Directory}
-use Rattle.sheet.specs.declared.Outcome.{Outcome}
-use Rattle.sheet.specs.declared.Outcome.the-variants.{Accepted, Refused}
-use Rattle.sheet.specs.Directory.{tableIn, FactsAre, PolicyAt, Described}
+use Rattle.clauses.specs.declared.Facts.{Facts}
+use Rattle.clauses.specs.Facts.{FactsAre, atomHeld}
+use Rattle.sheet.specs.Directory.{tableIn, PolicyAt}
 use Rattle.sheet.specs.declared.Counts.{Counts}
 
 -- the counts that the definitions read
@@ -68,20 +65,13 @@ pub record PoliciesIn (s : List ℕ) (facts : Sheet) (b : List ℕ) (ps : List s
 abbrev pub Closes : List ℕ → ℕ → Bool → Type 0
 Closes s p r = onRead (padding s p) (λ u q. nothingMore s q) ≡ cond r (found tt (p + (8 - p % 8) % 8)) (refused 10)
 
--- what reading every field answers
-abbrev pub FieldsRead : List ℕ → Directory → List ℕ → Outcome → Type 0
-FieldsRead s d b Accepted = (sheet : Sheet) × (end : ℕ) × (sheetFields s 0 ≡ found sheet end) × Described s sheet d b
-FieldsRead s d b (Refused n) = sheetFields s 0 ≡ refused n
-
--- Refusal 11, piece by piece: a variable that a table with these columns has, an atom, a policy's clauses, a table, a policy
-abbrev pub columnHeld : ℕ → ℕ → Bool
-columnHeld columns v = cond (ltb v 16) (member 16 columns v) true
-
-abbrev pub atomHeld : ℕ → Atom → Bool
-atomHeld columns a = every (columnHeld columns) (a .variable ∷ second (a .operator))
-
+-- Refusal 11, piece by piece: a table, a policy
 abbrev pub tableServes : Sheet → sheets.Policy → ℕ → Bool
 tableServes sheet p t = cond (matches t (tableAt sheet t) (p .selector)) (columnsHeld (tableAt sheet t) p) true
 
 abbrev pub policyServes : Sheet → sheets.Policy → Bool
 policyServes sheet p = every (tableServes sheet p) (numbersFrom 0 (length (sheet .tables)))
+
+-- the columns that serve a policy with the selector x, as far as the first n tables ask for them
+abbrev pub Shared : Sheet → Selector → ℕ → ℕ → Type 0
+Shared facts x n columns = (p : sheets.Policy) → p .selector ≡ x → every (every (atomHeld columns)) (p .clauses) ≡ every (tableServes facts p) (numbersFrom 0 n)

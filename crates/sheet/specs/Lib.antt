@@ -1,3 +1,2 @@
 pub mod Directory
-pub mod Ends
 pub mod Fronts

@@ -1,12 +1,12 @@
 // What is asked of a book: a table's facts, a policy's fields, and whether a policy counts for a table and a command.
 use crate::Directory;
 use crate::Table;
-use crate::selectors::is_member;
 use crate::selectors::selector_at;
 use bits::Place;
+use clauses::is_member;
 ghost use mathlib.Core.Path.{_≡_};
 ghost use mathlib.Core.Bool.{Bool};
-ghost use Prim.Native.Nat.{ℕ, _+_, _<_};
+ghost use Prim.Native.Nat.{ℕ, _+_, _<_, _≤_};
 ghost use lib.ListN.{length, getD};
 ghost use lib.Dec.{eqb};
 ghost use Rattle.meaning.specs.Sheets.{Sheet, policyAt};
@@ -119,4 +119,14 @@ pub fn applies(s: &[u8], d: Directory, book: &[u32], t: usize, command: u64, p: 
         return matches(s, d, book, t, p);
     }
     false
+}
+
+// A count, at most the most that there may be.
+pub fn up_to(most: usize, n: u64) -> usize
+    ensures { λ r. ⌜ (r ≤ most) × (n ≤ most → r ≡ n) ⌝ }
+{
+    if n < most as u64 {
+        return n as usize;
+    }
+    most
 }

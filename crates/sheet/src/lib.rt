@@ -1,33 +1,20 @@
 // A packed sheet, read. Bytes come in; out goes a directory of an accepted sheet, or the refusal number (1 to 11) that document 01 gives, in
 // its fixed order. The caller's bytes stay the only copy: the directory has the counts and kinds, and a lent book the table facts and the places
-// of selectors and clauses, so that no later layer parses again and nothing large is copied. Stands on bits, meaning, values and place;
+// of selectors and clauses, so that no later layer parses again and nothing large is copied. Stands on bits, meaning, values, place and clauses;
 // specs/Directory.antt ties a directory and its book to the sheet that the definitions read.
 
-use bits::Place;
-use meaning::Atom;
-use meaning::Clause;
+use clauses::End;
+use clauses::Facts;
 
-pub mod atoms;
-pub mod clauses;
 pub mod entries;
-pub mod fields;
 pub mod opening;
 pub mod policy_fields;
 pub mod selectors;
 pub mod serving;
 pub mod whole;
 
-pub use clauses::clause_at;
 pub use entries::applies;
 pub use whole::read_sheet;
-
-// How many columns, keys and tables there are, and the kinds of columns (from 0) and keys (from 16), by number.
-pub struct Facts {
-    pub columns: u64,
-    pub keys: u64,
-    pub tables: u64,
-    pub kinds: [u8; 24],
-}
 
 // "each table: schema, tags, columns held"
 pub struct Table {
@@ -52,29 +39,6 @@ pub enum Outcome {
 pub struct Reading {
     pub outcome: Outcome,
     pub directory: Directory,
-}
-
-// Where a reading ends: the place after it, or its refusal.
-pub enum End {
-    At(Place),
-    Refused(u32),
-}
-
-// The values of a list.
-pub struct Values {
-    pub end: End,
-    pub count: usize,
-    pub values: [u64; 8],
-}
-
-pub struct AtomRead {
-    pub end: End,
-    pub atom: Atom,
-}
-
-pub struct ClauseRead {
-    pub end: End,
-    pub clause: Clause,
 }
 
 // A selector read: does it match the table?
@@ -106,10 +70,4 @@ pub struct TableRead {
 pub struct Front {
     pub end: End,
     pub facts: Facts,
-}
-
-// Atoms read: does a set hold every column that they use?
-pub struct Held {
-    pub end: End,
-    pub held: bool,
 }

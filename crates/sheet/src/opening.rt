@@ -1,16 +1,16 @@
 // The front of a sheet: edition and counts, kinds of columns and keys, table facts.
 use crate::Counts;
-use crate::End;
-use crate::Facts;
 use crate::Front;
 use crate::Kinds;
 use crate::Table;
 use crate::TableRead;
-use crate::selectors::is_member;
 use bits::Field;
 use bits::Place;
 use bits::code_of;
 use bits::field_at;
+use clauses::End;
+use clauses::Facts;
+use clauses::is_member;
 use place::SheetHead;
 use place::sheet_head;
 ghost use mathlib.Core.Path.{_≡_};
@@ -23,9 +23,9 @@ ghost use Rattle.meaning.specs.Reading.{times, kind, table, counts, tableFacts}
 ghost use Rattle.meaning.specs.Reading as reading;
 ghost use Rattle.values.specs.Reads.{fieldOf};
 ghost use Rattle.sheet.specs.Directory.{tableOf};
-ghost use Rattle.sheet.specs.Ends.{Ends, AtMost, numbered};
+ghost use Rattle.clauses.specs.Ends.{Ends, AtMost, numbered};
 ghost use Rattle.sheet.specs.Fronts.{CountsAre, CountsFit, KindsPut, TablesIn, FrontIs};
-ghost use Rattle.sheet.specs.declared.End.the-variants as end;
+ghost use Rattle.clauses.specs.declared.End.the-variants as end;
 
 // "edition", and "columns C, keys K, tables T, policies P"
 pub fn counts_at(s: &[u8]) -> Counts

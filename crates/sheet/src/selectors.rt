@@ -1,13 +1,14 @@
 // Selectors: read, and matched with a table, in one walk. "Selectors nest inside selectors to a depth of six": the walk calls itself on the
 // inner selectors, the remaining depth falling at each call; a node at depth seven is refused before its bits are read.
 use crate::Chosen;
-use crate::End;
 use crate::Table;
-use crate::fields::number_below;
 use bits::Field;
 use bits::Place;
 use bits::code_of;
 use bits::field_at;
+use clauses::End;
+use clauses::fields::number_below;
+use clauses::is_member;
 ghost use mathlib.Core.Path.{_≡_};
 ghost use Prim.Native.Nat.{ℕ, _≤_, _<_};
 ghost use mathlib.Core.List.{List};
@@ -16,19 +17,8 @@ ghost use Rattle.bits.specs.Fields.{placeAt, codeOf};
 ghost use Rattle.meaning.specs.Sheets.{Sheet, Selector, member, matches};
 ghost use Rattle.meaning.specs.Reading.{Read, selector, selectorNode};
 ghost use Rattle.sheet.specs.Directory.{tableOf};
-ghost use Rattle.sheet.specs.Ends.{Ends};
-ghost use Rattle.sheet.specs.declared.End.the-variants as end;
-
-// Is i in a set of `width` bits? "first bit of a set stands for number 0"
-pub fn is_member(width: u64, set: u64, i: u64) -> bool
-    requires { ⌜ width ≤ 64 ⌝ }
-    ensures { λ r. ⌜ r ≡ member width set i ⌝ }
-{
-    if width <= i {
-        return false;
-    }
-    (set >> (width - 1 - i)) % 2 == 1
-}
+ghost use Rattle.clauses.specs.Ends.{Ends};
+ghost use Rattle.clauses.specs.declared.End.the-variants as end;
 
 fn not_chosen(got: Field) -> Chosen
     ensures { λ r. ⌜ r .end ≡ end.Refused (codeOf got) ⌝ }

@@ -1,86 +1,34 @@
-// Refusal 11: does each table that a policy's selector matches hold every column that the policy's atoms use, both sides of an equality?
-use crate::Directory;
-use crate::clauses::clause_held;
-use crate::entries::count_of;
-use crate::entries::matches;
-use crate::entries::start_of;
+// Refusal 11, as the policies are read: the columns that each table holds which a policy's selector matches. They serve the policy where they
+// hold every column that its atoms use, both sides of an equality.
 use crate::entries::table_of;
+use crate::selectors::selector_at;
 use bits::Place;
+use clauses::Facts;
 ghost use mathlib.Core.Path.{_≡_};
-ghost use Prim.Native.Nat.{ℕ, _<_};
+ghost use Prim.Native.Nat.{ℕ};
 ghost use lib.ListN.{length};
-ghost use Rattle.lists.specs.Lists.{every};
-ghost use Rattle.meaning.specs.Sheets.{Sheet, policyAt, tablesServe};
-ghost use Rattle.sheet.specs.Directory.{Described};
-ghost use Rattle.sheet.specs.Fronts.{atomHeld, tableServes, policyServes};
+ghost use Rattle.bits.specs.Fields.{placeAt};
+ghost use Rattle.meaning.specs.Sheets.{Sheet, Selector};
+ghost use Rattle.meaning.specs.Reading.{found, selector};
+ghost use Rattle.sheet.specs.Fronts.{FrontIs, Shared};
 
-// Does the set hold every column that the atoms of policy p use?
-fn columns_held(s: &[u8], d: Directory, book: &[u32], p: usize, columns: u64) -> bool
-    ensures { λ r. ⌜ ((sheet : Sheet) → Described (now (s .entry)) sheet d (now (book .entry)) → p < length (sheet .policies) → r ≡ every (every (atomHeld columns)) (policyAt sheet p .clauses)) ⌝ }
+// The columns that each table holds which the selector at a place matches; every column where it matches none.
+pub fn shared_columns(s: &[u8], at: Place, f: Facts, book: &[u32]) -> u64
+    ensures { λ r. ⌜ ((facts : Sheet) (x : Selector) (p q : ℕ) → FrontIs f (now (book .entry)) facts → at ≡ placeAt p → selector 6 facts (now (s .entry)) p ≡ found x q → Shared facts x (length (facts .tables)) r) ⌝ }
 {
-    let facts = d.facts;
-    let count = count_of(book, p);
-    let mut i = 0;
-    while i < count {
-        let start = start_of(book, p, i);
-        let got = clause_held(
-            s,
-            Place {
-                byte: start / 8,
-                bit: start % 8,
-            },
-            facts,
-            columns,
-        );
-        if got.held {
-            i += 1;
-        } else {
-            return false;
-        }
-    }
-    true
-}
-
-// Does table t serve policy p?
-fn table_serves(s: &[u8], d: Directory, book: &[u32], p: usize, t: usize) -> bool
-    ensures { λ r. ⌜ ((sheet : Sheet) → Described (now (s .entry)) sheet d (now (book .entry)) → p < length (sheet .policies) → t < length (sheet .tables) → r ≡ tableServes sheet (policyAt sheet p) t) ⌝ }
-{
-    if matches(s, d, book, t, p) {
-        let table = table_of(book, t);
-        return columns_held(s, d, book, p, table.columns as u64);
-    }
-    true
-}
-
-// Do all tables serve policy p?
-fn policy_serves(s: &[u8], d: Directory, book: &[u32], p: usize) -> bool
-    ensures { λ r. ⌜ ((sheet : Sheet) → Described (now (s .entry)) sheet d (now (book .entry)) → p < length (sheet .policies) → r ≡ policyServes sheet (policyAt sheet p)) ⌝ }
-{
-    let facts = d.facts;
-    let count = facts.tables;
+    let columns = f.columns;
+    let tables = f.tables;
+    let mut shared: u64 = 65535;
     let mut t: usize = 0;
-    while (t as u64) < count {
-        if table_serves(s, d, book, p, t) {
+    while (t as u64) < tables {
+        let table = table_of(book, t);
+        let got = selector_at(s, at, 6, columns, tables, t as u64, table);
+        if got.matched {
+            shared = shared & table.columns as u64;
             t += 1;
-        } else {
-            return false;
+            continue;
         }
+        t += 1;
     }
-    true
-}
-
-// Do all tables serve all policies?
-pub fn serves(s: &[u8], d: Directory, book: &[u32]) -> bool
-    ensures { λ r. ⌜ ((sheet : Sheet) → Described (now (s .entry)) sheet d (now (book .entry)) → r ≡ tablesServe sheet) ⌝ }
-{
-    let count = d.policies;
-    let mut p: usize = 0;
-    while (p as u64) < count {
-        if policy_serves(s, d, book, p) {
-            p += 1;
-        } else {
-            return false;
-        }
-    }
-    true
+    shared
 }

@@ -1,22 +1,21 @@
 // The whole sheet: front, policies, the sheet's end (refusals 1 to 10), and 11.
 use crate::Directory;
-use crate::End;
-use crate::Facts;
 use crate::Outcome;
 use crate::Reading;
 use crate::opening::counts_at;
 use crate::opening::front_at;
 use crate::policy_fields::policies_at;
-use crate::serving::serves;
 use bits::Place;
 use bits::peek;
+use clauses::End;
+use clauses::Facts;
 ghost use mathlib.Core.Path.{_≡_};
 ghost use Prim.Native.Nat.{ℕ, _≤_};
 ghost use lib.ListN.{length};
 ghost use Rattle.bits.specs.Fields.{placeAt};
 ghost use Rattle.sheet.specs.Directory.{SheetRead};
-ghost use Rattle.sheet.specs.Fronts.{Closes, FieldsRead};
-ghost use Rattle.sheet.specs.declared.End.the-variants as end;
+ghost use Rattle.sheet.specs.Fronts.{Closes};
+ghost use Rattle.clauses.specs.declared.End.the-variants as end;
 ghost use Rattle.sheet.specs.declared.Outcome.the-variants as outcome;
 
 // "After the last field come zero bits to the end of the byte and nothing more."
@@ -63,10 +62,10 @@ fn refused(why: End) -> Reading
     }
 }
 
-// Every field of a sheet, in order, and its end.
+// Every field of a sheet, in order, its end, and whether its tables serve its policies.
 fn fields_read(s: &[u8], book: &mut [u32]) -> Reading
     requires { ⌜ (length (now s) ≤ 16384) × (length (now book) ≡ 240) ⌝ }
-    ensures { λ r. ⌜ FieldsRead (now (s .entry)) (r .directory) (now (book .exit)) (r .outcome) ⌝ }
+    ensures { λ r. ⌜ SheetRead (now (s .entry)) (now (book .exit)) r ⌝ }
 {
     let n = counts_at(s);
     let first = n.end;
@@ -80,18 +79,22 @@ fn fields_read(s: &[u8], book: &mut [u32]) -> Reading
         return refused(second);
     };
     let count = n.policies;
-    let third = policies_at(s, q, facts, count as usize, book);
+    let policies = policies_at(s, q, facts, count as usize, book);
+    let third = policies.end;
     let End::At(u) = third else {
         return refused(third);
     };
     if closes(s, u) {
-        return Reading {
-            outcome: Outcome::Accepted,
-            directory: Directory {
-                facts: facts,
-                policies: count,
-            },
-        };
+        if policies.held {
+            return Reading {
+                outcome: Outcome::Accepted,
+                directory: Directory {
+                    facts: facts,
+                    policies: count,
+                },
+            };
+        }
+        return refused(End::Refused(11));
     }
     refused(End::Refused(10))
 }
@@ -104,14 +107,5 @@ pub fn read_sheet(s: &[u8], book: &mut [u32]) -> Reading
     if 16384 < s.len() {
         return refused(End::Refused(1));
     }
-    let got = fields_read(s, book);
-    let outcome = got.outcome;
-    let Outcome::Accepted = outcome else {
-        return got;
-    };
-    let d = got.directory;
-    if serves(s, d, book) {
-        return got;
-    }
-    refused(End::Refused(11))
+    fields_read(s, book)
 }

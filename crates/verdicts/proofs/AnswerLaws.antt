@@ -2,8 +2,8 @@
 use Prim.Native.Nat.{ℕ, _*_, _<_, _≤_}
 use native.Mathlib.Omega.{arith}
 use native.Mathlib.Decide.{decLt}
-use mathlib.Core.Path.{_≡_, refl, sym, ap, subst, _∙_}
-use mathlib.Core.Bool.{Bool, true, false, true≢false}
+use mathlib.Core.Path.{_≡_, refl, sym, subst, _∙_}
+use mathlib.Core.Bool.{Bool, true, false}
 use mathlib.Core.List.{List}
 use lib.ListN.{length}
 use Rattle.lists.specs.Decides.{Decides}
@@ -15,11 +15,10 @@ use Rattle.meaning.specs.declared.Cover.the-variants.{Covers, Misses}
 use Rattle.meaning.specs.declared.BranchCount.{BranchCount}
 use Rattle.meaning.specs.declared.BranchCount.the-variants.{Branches}
 use Rattle.meaning.specs.Sheets.{Sheet, branchCount}
-use Rattle.meaning.specs.Reading.{found, refused, readSheet}
 use Rattle.meaning.specs.Allowed.{SheetAllowed}
 use Rattle.meaning.specs.Views.{KindsAre}
 use Rattle.meaning.specs.Questions.{IsLive}
-use Rattle.meaning.specs.Replies.{asks, refuses, askedTable, LifeOf, DeadReply, IsolationOf, IsolatedReply, CoversReply, BranchesReply}
+use Rattle.meaning.specs.Replies.{DeadReply, IsolationOf, IsolatedReply, CoversReply, BranchesReply}
 use Rattle.sheet.specs.declared.Directory.{Directory}
 use Rattle.sheet.specs.declared.Outcome.{Outcome}
 use Rattle.sheet.specs.declared.Outcome.the-variants as outcome
@@ -136,17 +135,11 @@ module _ (s : List ℕ) (d : Directory) (book : List ℕ) (a b : ℕ) where
   pub cover-refused : (n : ℕ) (o : Outcome) → o ≡ outcome.Refused n → Outcomes s d book o → CoversReply s a b (Cover.Refused n)
   cover-refused n o e h = covers-refused s a b n (read-refused s d book h e)
 
-  pub no-first : (d .policies ≤ 16 → d .policies ≤ a) → Accepts s d book → CoversReply s a b (Cover.Refused 12)
-  no-first h f =
-      let e = f .described .policies in
-      let l = read-of s d book f .allowed .policies in
-      let m = h (omega arith) in first-not-there s a b (f .sheet) (f .end) (f .read) (omega arith)
+  pub no-first : d .policies ≤ a → Accepts s d book → CoversReply s a b (Cover.Refused 12)
+  no-first h f = let e = f .described .policies in first-not-there s a b (f .sheet) (f .end) (f .read) (omega arith)
 
-  pub no-second : a < d .policies → (d .policies ≤ 16 → d .policies ≤ b) → Accepts s d book → CoversReply s a b (Cover.Refused 12)
-  no-second k h f =
-      let e = f .described .policies in
-      let l = read-of s d book f .allowed .policies in
-      let m = h (omega arith) in second-not-there s a b (f .sheet) (f .end) (f .read) (omega arith) (omega arith)
+  pub no-second : a < d .policies → d .policies ≤ b → Accepts s d book → CoversReply s a b (Cover.Refused 12)
+  no-second k h f = let e = f .described .policies in second-not-there s a b (f .sheet) (f .end) (f .read) (omega arith) (omega arith)
 
   module _ (top : List ℕ) (r : Bool) (i : a < d .policies) (j : b < d .policies) (k : (sheet : Sheet) → KindsAre sheet (d .facts .kinds) → Ranges sheet top) (told : TellsCovers s d book top a b r) where
     decided : (f : Found s d book) → (a < length (f .sheet .policies)) × (b < length (f .sheet .policies))

@@ -2,23 +2,21 @@
 use Prim.Native.Nat.{ℕ, _+_, _<_, _≤_}
 use native.Mathlib.Omega.{arith}
 use native.Mathlib.Decide.{ℕ-discrete, decLt}
-use mathlib.Core.Path.{_≡_, refl, sym, ap, subst, _∙_}
+use mathlib.Core.Path.{_≡_, sym, ap, subst, _∙_}
 use mathlib.Core.Bool.{Bool, true, false, true≢false}
-use mathlib.Core.List.{List, [], map}
+use mathlib.Core.List.{List}
 use lib.ListN.{length, getD, set, replicate, getD-replicate}
 use lib.Seq.{getD-set-same, getD-set-other}
 use Rattle.lists.specs.Decides.{Decides}
 use Rattle.meaning.specs.declared.Isolation.{Isolation}
 use Rattle.meaning.specs.declared.Isolation.the-variants.{Isolated, Leaks}
-use Rattle.meaning.specs.Values.{Contents, with}
-use Rattle.meaning.specs.Atoms.{Clause, clauseMet}
+use Rattle.meaning.specs.Values.{with}
 use Rattle.meaning.specs.Sheets.{Sheet, branches, branchCount}
-use Rattle.meaning.specs.Questions.{Admitted, IsLive, IsIsolated, Leak, FirstLeak}
+use Rattle.meaning.specs.Questions.{IsLive, IsIsolated, Leak, FirstLeak}
 use Rattle.meaning.specs.Replies.{IsolationOf}
 use Rattle.meaning.proofs.BranchLaws.{branches-counted}
 use Rattle.meaning.proofs.LeakLaws.{branch-admits, admitted-branch, no-leak-isolated}
 use Rattle.sheet.specs.declared.Directory.{Directory}
-use Rattle.asked.specs.Words.{wordAtoms, seen}
 use Rattle.asked.specs.Asked.{Meets}
 use Rattle.verdicts.proofs.LayLaws.{branch-used}
 use Rattle.verdicts.specs.declared.Question.{Question}

@@ -1,8 +1,7 @@
 -- The replies: what is refused, in the paper's order, and what is answered.
 use Prim.Native.Nat.{ℕ, _<_, _≤_}
-use native.Mathlib.Omega.{arith}
 use mathlib.Core.Path.{_≡_, refl, sym, ap, subst, _∙_}
-use mathlib.Core.Bool.{Bool, true, false, cond, _&&_}
+use mathlib.Core.Bool.{Bool, _&&_}
 use mathlib.Core.List.{List}
 use lib.ListN.{length}
 use lib.Dec.{ltb, leb}
@@ -14,7 +13,7 @@ use Rattle.meaning.specs.declared.BranchCount.{BranchCount}
 use Rattle.meaning.specs.declared.BranchCount.the-variants.{Branches}
 use Rattle.meaning.specs.Sheets.{Sheet, branchCount}
 use Rattle.meaning.specs.Reading.{found, refused, readSheet}
-use Rattle.meaning.specs.Replies.{Asked, asks, refuses, _>>=_, _>>_, need, whole, Replies, askedTable, askedVerdict, askedCovers, LifeOf, DeadReply, IsolationOf, IsolatedReply, CoverOf, CoversReply, BranchesReply}
+use Rattle.meaning.specs.Replies.{asks, refuses, _>>=_, _>>_, need, whole, Replies, askedTable, askedVerdict, askedCovers, LifeOf, DeadReply, IsolationOf, IsolatedReply, CoverOf, CoversReply, BranchesReply}
 
 module _ (s : List ℕ) (t command : ℕ) where
   -- 1 to 11: the sheet's own

@@ -1,12 +1,10 @@
 -- Document 000's theorem 8.1 as a corollary, and what it does not see. (01, "Traps in the trade papers": "Its theorem 8.1 looks for the tenant
 -- atom in every permissive clause. That is enough but not needed: a restrictive clause, or equality through a second column, isolates too.")
-use Prim.Native.Nat.{ℕ, zero, suc, _-_, _<_}
+use Prim.Native.Nat.{ℕ, _-_, _<_}
 use native.Mathlib.Omega.{arith}
 use mathlib.Core.Path.{_≡_, refl, sym, ap, subst, _∙_}
 use mathlib.Core.Bool.{Bool, true, false, cond, _&&_, _||_, true≢false}
 use mathlib.Core.List.{List, [], _∷_}
-use lib.ListN.{length, getD}
-use lib.Dec.{ltb, eqb}
 use borrow.Author.Tests.{lt-ltb, eqb-true}
 use Rattle.lists.specs.Lists.{every, any, All, One}
 use Rattle.lists.proofs.BoolLaws.{both}
@@ -14,7 +12,7 @@ use Rattle.meaning.specs.declared.Content.{Content}
 use Rattle.meaning.specs.declared.Content.the-variants.{Null, Value}
 use Rattle.meaning.specs.Values.{token, Contents, with}
 use Rattle.meaning.specs.Atoms.{Operator, equals, in-list, Atom, Clause, isValue, passes, met, clauseMet, policyMet}
-use Rattle.meaning.specs.Sheets.{Policy, all, Sheet, permissive, admits}
+use Rattle.meaning.specs.Sheets.{Sheet, permissive, admits}
 use Rattle.meaning.specs.Questions.{IsIsolated}
 use Rattle.meaning.specs.Steps.{on}
 use Rattle.meaning.specs.Cases.{t, f, key-0, t-is-key-0, permits, restricts, sheetOf}

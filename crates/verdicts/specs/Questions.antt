@@ -1,7 +1,7 @@
 -- What the verdicts ask of a table and command, and how far their searches have got.
 use Prim.Native.Nat.{ℕ, _<_}
 use mathlib.Core.Path.{_≡_}
-use mathlib.Core.Bool.{Bool, true, false}
+use mathlib.Core.Bool.{Bool, false}
 use mathlib.Core.List.{List, [], map}
 use lib.ListN.{length, getD}
 use Rattle.lists.specs.Decides.{Decides}

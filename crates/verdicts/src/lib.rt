@@ -58,7 +58,7 @@ fn lay_clause(
     n: usize,
     second: bool,
 ) -> usize
-    requires { ⌜ (p < 16) × (n * 11 + 88 ≤ length (now words)) ⌝ }
+    requires { ⌜ n * 11 + 88 ≤ length (now words) ⌝ }
     ensures count { λ r. ⌜ r ≤ n + 8 ⌝ }
     ensures atoms { λ r. ⌜ ((sheet : Sheet) → Read (now (s .entry)) d (now (book .entry)) sheet → wordAtoms (now (words .exit)) r ≡ wordAtoms (now (words .entry)) n ++ map (seen second) (getD (clausesOf sheet p) k [])) ⌝ }
 {

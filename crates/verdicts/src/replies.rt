@@ -153,38 +153,24 @@ fn count_of(s: &[u8], p: Posed, book: &[u32]) -> BranchCount
     }
 }
 
-// Is there a policy of this number? A sheet has at most 16.
-fn is_policy(policies: u64, a: u32) -> bool
-    ensures there { λ r. ⌜ (r ≡ true → (a < 16) × (a < policies)) ⌝ }
-    ensures not { λ r. ⌜ (r ≡ false → policies ≤ 16 → policies ≤ a) ⌝ }
-{
-    if 16 <= a {
-        return false;
-    }
-    if policies <= a as u64 {
-        return false;
-    }
-    true
-}
-
 // 12, "policy number asked not there", of an accepted sheet
 fn cover_at(s: &[u8], d: Directory, book: &[u32], a: u32, b: u32) -> Cover
     ensures { λ r. ⌜ (Accepts (now (s .entry)) d (now (book .entry)) → CoversReply (now (s .entry)) a b r) ⌝ }
 {
     let policies = d.policies;
-    if is_policy(policies, a) {
-        if is_policy(policies, b) {
-            let facts = d.facts;
-            let kinds = facts.kinds;
-            let top = asked::tops(kinds);
-            if covering::policy_covers(s, d, book, a as usize, b as usize, top) {
-                return Cover::Covers;
-            }
-            return Cover::Misses;
-        }
+    if policies <= a as u64 {
         return Cover::Refused(12);
     }
-    Cover::Refused(12)
+    if policies <= b as u64 {
+        return Cover::Refused(12);
+    }
+    let facts = d.facts;
+    let kinds = facts.kinds;
+    let top = asked::tops(kinds);
+    if covering::policy_covers(s, d, book, a as usize, b as usize, top) {
+        return Cover::Covers;
+    }
+    Cover::Misses
 }
 
 pub fn covers(s: &[u8], read: Reading, book: &[u32], a: u32, b: u32) -> Cover

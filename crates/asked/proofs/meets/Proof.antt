@@ -1,5 +1,4 @@
 -- The words of the n atoms are lent, and the answer is told of the clauses that they lay.
-use native.Mathlib.Omega.{arith}
 use mathlib.Core.Path.{refl, sym}
 use lib.Seq.{length-take-le}
 use Rattle.asked.proofs.Tenants.{meets-told}

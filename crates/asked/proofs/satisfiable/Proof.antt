@@ -1,6 +1,5 @@
 use Rattle.meaning.specs.Views.{clauseOf}
 use mathlib.Core.Path.{refl, sym}
-use native.Mathlib.Omega.{arith}
 use lib.Seq.{length-take-le}
 use Rattle.asked.proofs.LentLaws.{live-told}
 use borrow.Author.Needs.{needs}

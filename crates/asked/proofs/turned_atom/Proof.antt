@@ -1,5 +1,4 @@
 use mathlib.Core.Path.{refl}
-use native.Mathlib.Omega.{arith}
 use Rattle.asked.proofs.TurnLaws.{turned-there}
 use borrow.Author.Needs.{needs}
 use Rattle.asked.proofs.turned_atom.Statement.{statement}

@@ -1,4 +1,3 @@
-use native.Mathlib.Omega.{arith}
 use Rattle.asked.proofs.TurnLaws.{turned-at, turned-rest}
 use Rattle.asked.proofs.turned_operator.Statement.{statement}
 use Rattle.asked.proofs.turned_operator.Tie as tie

@@ -1,6 +1,6 @@
 -- `branches::digits_of` meets its contract: the slots from place p on hold the last digits of k, and `rest` is what is left of it.
 use Prim.Native.Nat.{_≤_}
-use mathlib.Core.Path.{refl}
+use mathlib.Core.Path.{refl, _∙_}
 use native.Mathlib.Omega.{arith}
 use borrow.Author.Needs.{needs}
 use lib.ListN.{replicate}
@@ -38,8 +38,8 @@ factor-of-requires c κs = search needs
 divisor-requires : tie.Need-divisor-requires Inv-loop μ-loop
 divisor-requires c κs = search needs
 
-rem-slot : tie.Need-rem-slot Inv-loop μ-loop
-rem-slot c = omega arith
+left-by-requires : tie.Need-left-by-requires Inv-loop μ-loop
+left-by-requires c κs = search needs
 
 slot-requires : tie.Need-slot-requires Inv-loop μ-loop
 slot-requires c κs = search needs
@@ -50,16 +50,17 @@ mul-slots c = omega arith
 array-write-slots : tie.Need-array-write-slots Inv-loop μ-loop
 array-write-slots c = omega arith
 
-div-rest : tie.Need-div-rest Inv-loop μ-loop
-div-rest c = omega arith
+over-requires : tie.Need-over-requires Inv-loop μ-loop
+over-requires c κs = search needs
 
 loop-less : tie.Need-loop-less Inv-loop μ-loop
 loop-less c = omega arith
 
 loop-again : tie.Need-loop-again Inv-loop μ-loop
-loop-again c = let l = c .before .before .before .before .loop in
-    let d = c .before .divisor .ensures in
-    (omega arith, going-more _ _ _ _ _ _ _ _ _ (omega arith) (omega arith) (c .before .before .factor-of .ensures .0) (d .1) (c .slot .ensures .0) (c .slot .ensures .1) (l .inv .1))
+loop-again c = (
+  omega arith,
+  going-more _ _ _ _ _ _ _ _ _ _ (omega arith) (omega arith) (c .before .before .before .before .factor-of .ensures .0) (c .before .before .before .divisor .ensures .1) (λ e. c .before .slot .ensures .0 e ∙ c .before .before .left-by .ensures) (c .before .slot .ensures .1) (c .over .ensures) (c .before .before .before .before .before .before .loop .inv .1),
+)
 
 returns : tie.Need-returns Inv-loop μ-loop
 returns c = going-ends _ _ _ _ _ _ (omega arith) (c .before .loop .inv .1)
@@ -78,11 +79,11 @@ digits-of-spec =
     array-read-factor-of
     factor-of-requires
     divisor-requires
-    rem-slot
+    left-by-requires
     slot-requires
     mul-slots
     array-write-slots
-    div-rest
+    over-requires
     loop-less
     loop-again
     returns)

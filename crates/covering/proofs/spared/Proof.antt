@@ -1,5 +1,4 @@
 -- `covering::spared` meets its contract: a clause that nobody meets is spared, any other is where it is covered.
-use native.Mathlib.Omega.{arith}
 use borrow.Author.Needs.{needs}
 use Rattle.covering.proofs.CoverLaws.{spared-covered, spared-dead}
 use Rattle.covering.proofs.spared.Statement.{statement}

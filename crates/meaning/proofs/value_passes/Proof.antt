@@ -1,5 +1,5 @@
 use borrow.Author.Needs.{needs}
-use mathlib.Core.Path.{_≡_, sym, ap, _∙_}
+use mathlib.Core.Path.{sym, ap, _∙_}
 use mathlib.Core.Bool.{not}
 use Rattle.meaning.proofs.ViewLaws.{value-passes-at, value-passes-rest}
 use Rattle.meaning.proofs.value_passes.Statement.{statement}

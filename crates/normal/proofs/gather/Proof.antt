@@ -10,7 +10,8 @@ use Rattle.meaning.specs.Sheets as m
 use Rattle.meaning.specs.Sheets.{Sheet}
 use Rattle.meaning.specs.Allowed.{factsOf}
 use Rattle.meaning.specs.Views.{clauseOf}
-use Rattle.sheet.specs.Directory.{policyCell, FactsAre, PolicyAt}
+use Rattle.clauses.specs.Facts.{FactsAre}
+use Rattle.sheet.specs.Directory.{policyCell, PolicyAt}
 use Rattle.sheet.proofs.EntryLaws.{start-so}
 use Rattle.steps.proofs.ClauseLaws.{unmapped, mapped-pushed}
 use Rattle.lists.proofs.ListLaws.{all-at}

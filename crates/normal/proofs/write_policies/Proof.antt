@@ -26,13 +26,13 @@ abbrev μ-loop : tie.MeasureT-loop
 tops-requires : tie.Need-tops-requires Inv-loop μ-loop
 tops-requires c κs = search needs
 
-at-most-requires : tie.Need-at-most-requires Inv-loop μ-loop
-at-most-requires c κs = search needs
+up-to-requires : tie.Need-up-to-requires Inv-loop μ-loop
+up-to-requires c κs = search needs
 
 loop-holds : tie.Need-loop-holds Inv-loop μ-loop
 loop-holds c =
     let a = c .before .before .before .before .before .before .before .args in
-    (omega arith, omega (arith, c .at-most .ensures .0), refl, λ sheet o bs m h w. no-policies sheet o bs (a .out .now) (a .p) w)
+    (omega arith, omega (arith, c .up-to .ensures .0), refl, λ sheet o bs m h w. no-policies sheet o bs (a .out .now) (a .p) w)
 
 write-policy-requires : tie.Need-write-policy-requires Inv-loop μ-loop
 write-policy-requires c κs = search needs
@@ -67,8 +67,8 @@ returns c =
     let top = c .before .before .before .tops in
     let kinds : length (a .d .facts .kinds) ≡ 24 = search needs in
     λ sheet o bs h acc w.
-    let m : c .before .before .at-most .result ≡ a .d .policies = c .before .before .at-most .ensures .1 (omega (arith, h .policies, h .few)) in
-    let n : c .before .before .at-most .result ≡ length (sheet .policies) = omega (arith, h .policies) in
+    let m : c .before .before .up-to .result ≡ a .d .policies = c .before .before .up-to .ensures .1 (omega (arith, h .policies, h .few)) in
+    let n : c .before .before .up-to .result ≡ length (sheet .policies) = omega (arith, h .policies) in
     let t : l .i ≡ length (sheet .policies) = omega arith in
     subst (λ (z : ℕ). PoliciesWritten sheet z o bs (l .out) (l .q)) t
     (l .inv .3 sheet o bs n (λ k there. readable (a .s .now) sheet (a .d) (a .book .now) (top .result) h acc kinds (top .ensures sheet (h .facts .kinds)) k (omega arith)) w)
@@ -80,7 +80,7 @@ write-policies-spec =
     Inv-loop
     μ-loop
     tops-requires
-    at-most-requires
+    up-to-requires
     loop-holds
     write-policy-requires
     add-i

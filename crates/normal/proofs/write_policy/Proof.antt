@@ -18,7 +18,8 @@ use Rattle.pruned.specs.Pruned.{clausesOf, chosen, Tidied}
 use Rattle.packing.specs.Wrote.{Wrote}
 use Rattle.packing.proofs.WroteLaws.{wrote-as}
 use Rattle.normal.proofs.PolicyLaws.{clauses-five, policy-written, type-small}
-use Rattle.normal.proofs.ReadableLaws.{selector-stands, type-told, commands-told, selector-told}
+use Rattle.normal.proofs.ReadableLaws.{selector-stands}
+use Rattle.sheet.proofs.EntryLaws.{type-told, commands-told, selector-told}
 use Rattle.normal.proofs.write_policy.Statement.{statement}
 use Rattle.normal.proofs.write_policy.Tie as tie
 
@@ -63,7 +64,7 @@ returns c = λ sheet x o bs h w.
     let a = c .before .before .before .before .before .before .before .before .before .before .before .before .before .before .before .before .before .before .before .before .before .before .before .before .before .before .before .args in
     let s = a .s .now in
     let from = c .before .before .before .before .before .before .before .before .before .before .before .before .before .before .before .before .before .before .before .before .before .before .before .selector-of .result in
-    let sel = selector-told h (c .before .before .before .before .before .before .before .before .before .before .before .before .before .before .before .before .before .before .before .before .before .before .before .selector-of .ensures) in
+    let sel = selector-told _ (h .at) (h .there) (c .before .before .before .before .before .before .before .before .before .before .before .before .before .before .before .before .before .before .before .before .before .before .before .selector-of .ensures) in
     let st = selector-stands (factsOf sheet) s from (x .selector) (sel .0) (sel .1) in
     let to = c .before .before .before .before .before .before .before .before .before .selector-end .result in
     let end : to ≡ sel .0 = c .before .before .before .before .before .before .before .before .before .selector-end .ensures sheet (x .selector) (sel .0) (h .facts) (h .short) (st .0) (sel .1) in
@@ -73,10 +74,10 @@ returns c = λ sheet x o bs h w.
     let normal : NormalClauses sheet (x .clauses) ds = c .before .before .before .before .choose .ensures .1 sheet (x .clauses) (h .known) (h .fits) tidy in
     let t : List ℕ = bits 1 (cond (x .restrictive) 1 0) in
     let k : List ℕ = bits 4 (x .commands) in
-    let type : c .before .before .before .before .before .before .before .before .before .before .before .before .before .before .before .before .before .before .before .type-of .result ≡ cond (x .restrictive) 1 0 = c .before .before .before .before .before .before .before .before .before .before .before .before .before .before .before .before .before .before .before .type-of .ensures ∙ ap (λ (b : Bool). cond b 1 0) (type-told h (c .before .before .before .before .before .before .before .before .before .before .before .before .before .before .before .before .before .before .before .before .restrictive-of .ensures)) in
+    let type : c .before .before .before .before .before .before .before .before .before .before .before .before .before .before .before .before .before .before .before .type-of .result ≡ cond (x .restrictive) 1 0 = c .before .before .before .before .before .before .before .before .before .before .before .before .before .before .before .before .before .before .before .type-of .ensures ∙ ap (λ (b : Bool). cond b 1 0) (type-told _ (h .at) (h .there) (c .before .before .before .before .before .before .before .before .before .before .before .before .before .before .before .before .before .before .before .before .restrictive-of .ensures)) in
     let one : Wrote o (bs ++ t) (c .before .before .before .before .before .before .before .before .before .before .before .before .before .before .before .before .before .before .write .last .0) (c .before .before .before .before .before .before .before .before .before .before .before .before .before .before .before .before .before .before .write .result) =
     wrote-as o bs (bits 1 (c .before .before .before .before .before .before .before .before .before .before .before .before .before .before .before .before .before .before .before .type-of .result)) t (c .before .before .before .before .before .before .before .before .before .before .before .before .before .before .before .before .before .before .write .last .0) (c .before .before .before .before .before .before .before .before .before .before .before .before .before .before .before .before .before .before .write .result) (ap (bits 1) type) (c .before .before .before .before .before .before .before .before .before .before .before .before .before .before .before .before .before .before .write .ensures o bs w (omega (arith, type, type-small (x .restrictive)))) in
-    let commands : c .before .before .before .before .before .before .before .before .before .before .before .before .before .before .commands-of .result ≡ x .commands = commands-told h (c .before .before .before .before .before .before .before .before .before .before .before .before .before .before .commands-of .ensures) in
+    let commands : c .before .before .before .before .before .before .before .before .before .before .before .before .before .before .commands-of .result ≡ x .commands = commands-told _ (h .at) (h .there) (c .before .before .before .before .before .before .before .before .before .before .before .before .before .before .commands-of .ensures) in
     let two : Wrote o ((bs ++ t) ++ k) (c .before .before .before .before .before .before .before .before .before .before .before .before .before .write2 .last .0) (c .before .before .before .before .before .before .before .before .before .before .before .before .before .write2 .result) =
     wrote-as o (bs ++ t) (bits 4 (c .before .before .before .before .before .before .before .before .before .before .before .before .before .before .commands-of .result)) k (c .before .before .before .before .before .before .before .before .before .before .before .before .before .write2 .last .0) (c .before .before .before .before .before .before .before .before .before .before .before .before .before .write2 .result) (ap (bits 4) commands) (c .before .before .before .before .before .before .before .before .before .before .before .before .before .write2 .ensures o (bs ++ t) one (omega (arith, commands, h .allowed .1))) in
     let three : Wrote o (((bs ++ t) ++ k) ++ selectorBits (x .selector)) (c .before .before .before .before .before .before .before .before .copy .last .0) (c .before .before .before .before .before .before .before .before .copy .result) =

@@ -5,7 +5,6 @@ use native.Mathlib.Omega.{arith}
 use borrow.Author.Needs.{needs}
 use mathlib.Core.List.{List, _++_}
 use lib.ListN.{length}
-use Rattle.bits.specs.Bits.{bits}
 use Rattle.bits.proofs.Laws.{number-lt}
 use Rattle.packing.specs.Wrote.{Wrote}
 use Rattle.packing.proofs.WroteLaws.{run, copy-starts, copy-more, copy-all}

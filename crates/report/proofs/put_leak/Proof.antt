@@ -1,5 +1,5 @@
 use borrow.Author.Needs.{needs}
-use Rattle.text.proofs.WroteLaws.{wrote-none, wrote-then}
+use Rattle.text.proofs.WroteLaws.{wrote-then}
 use Rattle.report.proofs.put_leak.Statement.{statement}
 use Rattle.report.proofs.put_leak.Tie as tie
 use Rattle.report.proofs.put_leak.Reads as reads

@@ -23,11 +23,11 @@ add-if3 c = search needs
 returns-3 : tie.Need-returns-3
 returns-3 c = (tt, λ k K. search content-short)
 
-add-peek64 : tie.Need-add-peek64
-add-peek64 c = search needs
+add-within64 : tie.Need-add-within64
+add-within64 c = search needs
 
-peek64-requires : tie.Need-peek64-requires
-peek64-requires c κs = search needs
+within64-requires : tie.Need-within64-requires
+within64-requires c κs = search needs
 
 raw-of-requires : tie.Need-raw-of-requires
 raw-of-requires c κs = search needs
@@ -39,10 +39,10 @@ add-t13 : tie.Need-add-t13
 add-t13 c = search needs
 
 returns-4 : tie.Need-returns-4
-returns-4 c = ((omega arith, omega arith, omega arith), λ k K. content-value k _ _ (c .before .before .before .before .before .before .before .if1 .left) (c .before .before .before .before .before .before .bit-at .ensures) (c .before .before .before .before .before .if2 .left) (c .before .before .before .before .if3 .left) (c .before .before .before .peek64 .ensures) (c .before .before .raw-of .ensures k K) (c .before .last-of .ensures k K) (c .if4 .taken))
+returns-4 c = ((omega arith, omega arith, omega arith), λ k K. content-value k _ _ (c .before .before .before .before .before .before .before .if1 .left) (c .before .before .before .before .before .before .bit-at .ensures) (c .before .before .before .before .before .if2 .left) (c .before .before .before .before .if3 .left) (c .before .before .before .within64 .ensures) (c .before .before .raw-of .ensures k K) (c .before .last-of .ensures k K) (c .if4 .taken))
 
 returns-5 : tie.Need-returns-5
-returns-5 c = (tt, λ k K. content-strange k _ _ (c .before .before .before .before .before .before .before .if1 .left) (c .before .before .before .before .before .before .bit-at .ensures) (c .before .before .before .before .before .if2 .left) (c .before .before .before .before .if3 .left) (c .before .before .before .peek64 .ensures) (c .before .before .raw-of .ensures k K) (c .before .last-of .ensures k K) (c .if4 .left))
+returns-5 c = (tt, λ k K. content-strange k _ _ (c .before .before .before .before .before .before .before .if1 .left) (c .before .before .before .before .before .before .bit-at .ensures) (c .before .before .before .before .before .if2 .left) (c .before .before .before .before .if3 .left) (c .before .before .before .within64 .ensures) (c .before .before .raw-of .ensures k K) (c .before .last-of .ensures k K) (c .if4 .left))
 
 pub content-at-spec : {M : Type 1} → statement M
 content-at-spec =
@@ -54,8 +54,8 @@ content-at-spec =
     returns-2
     add-if3
     returns-3
-    add-peek64
-    peek64-requires
+    add-within64
+    within64-requires
     raw-of-requires
     last-of-requires
     add-t13

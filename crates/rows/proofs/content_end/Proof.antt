@@ -40,11 +40,11 @@ returns-4 c = (
       ends-as (content k _ _) (content-value k _ _ (c .before .before .before .before .if1 .left) (c .before .before .before .bit-at .ensures) (c .before .before .if2 .left) (c .before .if3 .left) {x = n} refl refl refl (integer-fits k n (K ∙ c .if4 .taken) (number-lt _ _ 64))),
 )
 
-add-peek64 : tie.Need-add-peek64
-add-peek64 c = search needs
+add-within64 : tie.Need-add-within64
+add-within64 c = search needs
 
-peek64-requires : tie.Need-peek64-requires
-peek64-requires c κs = search needs
+within64-requires : tie.Need-within64-requires
+within64-requires c κs = search needs
 
 raw-of-requires : tie.Need-raw-of-requires
 raw-of-requires c κs = search needs
@@ -56,10 +56,10 @@ add-t13 : tie.Need-add-t13
 add-t13 c = search needs
 
 returns-5 : tie.Need-returns-5
-returns-5 c = ((omega arith, omega arith, omega arith), λ k K. ends-as (content k _ _) (content-value k _ _ (c .before .before .before .before .before .before .before .before .if1 .left) (c .before .before .before .before .before .before .before .bit-at .ensures) (c .before .before .before .before .before .before .if2 .left) (c .before .before .before .before .before .if3 .left) (c .before .before .before .peek64 .ensures) (c .before .before .raw-of .ensures k K) (c .before .last-of .ensures k K) (c .if5 .taken)))
+returns-5 c = ((omega arith, omega arith, omega arith), λ k K. ends-as (content k _ _) (content-value k _ _ (c .before .before .before .before .before .before .before .before .if1 .left) (c .before .before .before .before .before .before .before .bit-at .ensures) (c .before .before .before .before .before .before .if2 .left) (c .before .before .before .before .before .if3 .left) (c .before .before .before .within64 .ensures) (c .before .before .raw-of .ensures k K) (c .before .last-of .ensures k K) (c .if5 .taken)))
 
 returns-6 : tie.Need-returns-6
-returns-6 c = (tt, λ k K. ends-as (content k _ _) (content-strange k _ _ (c .before .before .before .before .before .before .before .before .if1 .left) (c .before .before .before .before .before .before .before .bit-at .ensures) (c .before .before .before .before .before .before .if2 .left) (c .before .before .before .before .before .if3 .left) (c .before .before .before .peek64 .ensures) (c .before .before .raw-of .ensures k K) (c .before .last-of .ensures k K) (c .if5 .left)))
+returns-6 c = (tt, λ k K. ends-as (content k _ _) (content-strange k _ _ (c .before .before .before .before .before .before .before .before .if1 .left) (c .before .before .before .before .before .before .before .bit-at .ensures) (c .before .before .before .before .before .before .if2 .left) (c .before .before .before .before .before .if3 .left) (c .before .before .before .within64 .ensures) (c .before .before .raw-of .ensures k K) (c .before .last-of .ensures k K) (c .if5 .left)))
 
 pub content-end-spec : {M : Type 1} → statement M
 content-end-spec =
@@ -73,8 +73,8 @@ content-end-spec =
     returns-3
     add-t10
     returns-4
-    add-peek64
-    peek64-requires
+    add-within64
+    within64-requires
     raw-of-requires
     last-of-requires
     add-t13

@@ -1,5 +1,4 @@
 -- `values::value_at` meets its contract: the field is the definition's, and so are its code and the greatest of the kind.
-use native.Mathlib.Omega.{arith}
 use Rattle.values.proofs.ValueLaws.{value-lost, value-found, value-strange}
 use borrow.Author.Needs.{needs}
 use Rattle.values.proofs.value_at.Statement.{statement}

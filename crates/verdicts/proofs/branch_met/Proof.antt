@@ -1,5 +1,4 @@
 -- `verdicts::branch_met` meets its contract: the branch is laid alone.
-use native.Mathlib.Omega.{arith}
 use borrow.Author.Needs.{needs}
 use Rattle.verdicts.proofs.LayLaws.{branch-told}
 use Rattle.verdicts.proofs.branch_met.Statement.{statement}

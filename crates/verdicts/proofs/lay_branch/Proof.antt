@@ -49,7 +49,7 @@ lay-clause-requires-2 c κs =
     let h = room _ _ _ _ _ (c .before .before .loop-test .taken) (c .before .before .before .before .before .before .before .before .before .before .before .before .pre .0) (c .before .if1 .left) (c .before .before .before .before .before .before .lay-clause .ensures .0) (l .inv .2) (l .inv .3) in
     let w : length (l .words) ≡ length (c .before .before .before .before .before .before .before .before .before .before .before .before .args .words .now) = search needs in
     let g = c .before .before .before .before .before .before .before .before .before .before .before .before .pre .1 in
-    (c .before .before .loop-test .taken, omega arith)
+    omega arith
 
 add-p-2 : tie.Need-add-p-2 Inv-loop μ-loop
 add-p-2 c = omega arith

@@ -6,7 +6,8 @@ use lib.ListN.{length, length-set}
 use Rattle.meaning.specs.Sheets.{Sheet, policyAt}
 use Rattle.meaning.specs.Allowed.{factsOf}
 use Rattle.sheet.specs.Directory.{Described}
-use Rattle.listing.proofs.PlanLaws.{PlanTo, plan-start, plan-skip, plan-restricts, plan-permits, plan-done, type-so}
+use Rattle.listing.proofs.PlanLaws.{PlanTo, plan-start, plan-skip, plan-restricts, plan-permits, plan-done}
+use Rattle.sheet.proofs.EntryLaws.{type-told}
 use borrow.Author.Needs.{needs}
 use Rattle.listing.proofs.plans.lay_policies.Statement.{statement}
 use Rattle.listing.proofs.plans.lay_policies.Tie as tie
@@ -69,7 +70,7 @@ loop-again c =
           let n = D .policies in let most = D .few in let same = u .1 (omega arith) in
           let i : c .before .before .before .before .before .before .before .before .loop .p < length (sheet .policies) = omega arith in
           let P = D .policy (c .before .before .before .before .before .before .before .before .loop .p) i in
-          plan-restricts sheet (c .before .before .before .before .before .before .before .before .before .before .before .before .args .t) (c .before .before .before .before .before .before .before .before .before .before .before .before .args .command) (c .before .before .before .before .before .before .before .before .before .before .before .before .args .s .now) (c .before .before .before .before .before .before .before .before .loop .p) (c .before .before .before .before .before .before .before .before .loop .words) (c .before .before .before .before .before .before .before .before .loop .heads) (c .before .before .before .before .before .before .before .before .loop .counts) (c .before .before .before .before .before .before .before .before .loop .some) (c .before .before .before .before .before .before .before .before .loop .all) i (c .before .before .before .before .before .before .before .before .loop .inv .5 sheet l D h) (c .before .before .before .before .before .before .applies .ensures sheet D h i) (c .before .before .before .before .before .if1 .taken) (type-so P (omega arith) (c .before .before .before .before .restrictive-of .ensures)) (omega arith) (c .before .before .before .before .before .before .before .before .loop .inv .1) (c .lay-policy .result) _ _ (c .before .before .before .if2 .taken) (omega arith) few (step .3) (step .4) (step .5 (factsOf sheet) (policyAt sheet (c .before .before .before .before .before .before .before .before .loop .p)) l (omega arith) P),
+          plan-restricts sheet (c .before .before .before .before .before .before .before .before .before .before .before .before .args .t) (c .before .before .before .before .before .before .before .before .before .before .before .before .args .command) (c .before .before .before .before .before .before .before .before .before .before .before .before .args .s .now) (c .before .before .before .before .before .before .before .before .loop .p) (c .before .before .before .before .before .before .before .before .loop .words) (c .before .before .before .before .before .before .before .before .loop .heads) (c .before .before .before .before .before .before .before .before .loop .counts) (c .before .before .before .before .before .before .before .before .loop .some) (c .before .before .before .before .before .before .before .before .loop .all) i (c .before .before .before .before .before .before .before .before .loop .inv .5 sheet l D h) (c .before .before .before .before .before .before .applies .ensures sheet D h i) (c .before .before .before .before .before .if1 .taken) (type-told _ P (omega arith) (c .before .before .before .before .restrictive-of .ensures)) (omega arith) (c .before .before .before .before .before .before .before .before .loop .inv .1) (c .lay-policy .result) _ _ (c .before .before .before .if2 .taken) (omega arith) few (step .3) (step .4) (step .5 (factsOf sheet) (policyAt sheet (c .before .before .before .before .before .before .before .before .loop .p)) l (omega arith) P),
     )
 
 lay-policy-requires-2 : tie.Need-lay-policy-requires-2 Inv-loop μ-loop
@@ -99,7 +100,7 @@ loop-again-2 c =
           let n = D .policies in let most = D .few in let same = u .1 (omega arith) in
           let i : c .before .before .before .before .before .before .before .before .loop .p < length (sheet .policies) = omega arith in
           let P = D .policy (c .before .before .before .before .before .before .before .before .loop .p) i in
-          plan-permits sheet (c .before .before .before .before .before .before .before .before .before .before .before .before .args .t) (c .before .before .before .before .before .before .before .before .before .before .before .before .args .command) (c .before .before .before .before .before .before .before .before .before .before .before .before .args .s .now) (c .before .before .before .before .before .before .before .before .loop .p) (c .before .before .before .before .before .before .before .before .loop .words) (c .before .before .before .before .before .before .before .before .loop .heads) (c .before .before .before .before .before .before .before .before .loop .counts) (c .before .before .before .before .before .before .before .before .loop .some) (c .before .before .before .before .before .before .before .before .loop .all) i (c .before .before .before .before .before .before .before .before .loop .inv .5 sheet l D h) (c .before .before .before .before .before .before .applies .ensures sheet D h i) (c .before .before .before .before .before .if1 .taken) (type-so P (omega arith) (c .before .before .before .before .restrictive-of .ensures)) (omega arith) (c .before .before .before .before .before .before .before .before .loop .inv .1) (c .lay-policy2 .result) _ _ (c .before .before .before .if2 .left) (step .3) (step .4) (step .5 (factsOf sheet) (policyAt sheet (c .before .before .before .before .before .before .before .before .loop .p)) l (omega arith) P),
+          plan-permits sheet (c .before .before .before .before .before .before .before .before .before .before .before .before .args .t) (c .before .before .before .before .before .before .before .before .before .before .before .before .args .command) (c .before .before .before .before .before .before .before .before .before .before .before .before .args .s .now) (c .before .before .before .before .before .before .before .before .loop .p) (c .before .before .before .before .before .before .before .before .loop .words) (c .before .before .before .before .before .before .before .before .loop .heads) (c .before .before .before .before .before .before .before .before .loop .counts) (c .before .before .before .before .before .before .before .before .loop .some) (c .before .before .before .before .before .before .before .before .loop .all) i (c .before .before .before .before .before .before .before .before .loop .inv .5 sheet l D h) (c .before .before .before .before .before .before .applies .ensures sheet D h i) (c .before .before .before .before .before .if1 .taken) (type-told _ P (omega arith) (c .before .before .before .before .restrictive-of .ensures)) (omega arith) (c .before .before .before .before .before .before .before .before .loop .inv .1) (c .lay-policy2 .result) _ _ (c .before .before .before .if2 .left) (step .3) (step .4) (step .5 (factsOf sheet) (policyAt sheet (c .before .before .before .before .before .before .before .before .loop .p)) l (omega arith) P),
     )
 
 add-p-3 : tie.Need-add-p-3 Inv-loop μ-loop

@@ -6,10 +6,10 @@ use lib.ListN.{length, take, length-set}
 use Rattle.meaning.specs.Sheets as m
 use Rattle.meaning.specs.Sheets.{Sheet, kindOf}
 use Rattle.sheet.specs.Directory.{PolicyAt}
-use Rattle.sheet.proofs.EntryLaws.{start-so}
+use Rattle.sheet.proofs.EntryLaws.{start-so, count-told}
 use Rattle.admission.specs.Plan.{ClausesLaid, Outside}
 use Rattle.admission.proofs.OutsideLaws.{nothing-written, one-written, then-written}
-use Rattle.listing.proofs.PlanLaws.{clauses-start, clauses-on, clauses-done, number-so}
+use Rattle.listing.proofs.PlanLaws.{clauses-start, clauses-on, clauses-done}
 use borrow.Author.Needs.{needs}
 use Rattle.listing.proofs.plans.lay_policy.Statement.{statement}
 use Rattle.listing.proofs.plans.lay_policy.Tie as tie
@@ -76,7 +76,7 @@ returns c =
       u .0,
       c .before .loop .inv .3,
       c .before .loop .inv .4,
-      λ facts x l h P. let n = number-so P h (c .before .before .before .count-of .ensures) in let few = P .few in let same = u .1 (omega arith) in clauses-done (kindOf facts) _ _ (x .clauses) (c .before .loop .k) _ _ _ (omega arith) (omega arith) (c .before .loop .inv .5 facts x l h P (omega arith)),
+      λ facts x l h P. let n = count-told _ P h (c .before .before .before .count-of .ensures) in let few = P .few in let same = u .1 (omega arith) in clauses-done (kindOf facts) _ _ (x .clauses) (c .before .loop .k) _ _ _ (omega arith) (omega arith) (c .before .loop .inv .5 facts x l h P (omega arith)),
     )
 
 pub lay-policy-spec : {M : Type 1} → statement M

@@ -3,7 +3,7 @@ use native.Mathlib.Omega.{arith}
 use mathlib.Core.Path.{refl}
 use Rattle.meaning.specs.Reading.{counts}
 use Rattle.place.proofs.HeadLaws.{counts-found, counts-refused, counts-small}
-use Rattle.sheet.specs.Ends.{ended, stopped}
+use Rattle.clauses.specs.Ends.{ended, stopped}
 use denote.Ref.{now}
 use borrow.Author.Needs.{needs}
 use Rattle.sheet.proofs.opening.counts_at.Statement.{statement}

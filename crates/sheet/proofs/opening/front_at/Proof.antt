@@ -1,7 +1,7 @@
 -- `sheet::opening::front_at` meets its contract: kinds of columns, kinds of keys, tables, one after the other.
 use mathlib.Core.Path.{_∙_, ap}
 use Rattle.meaning.specs.Reading.{kind, table, tableFacts, times}
-use Rattle.sheet.proofs.TurnLaws.{ends-at, ends-refused, ends-lost, ends-by, ends-onto, times-length}
+use Rattle.clauses.proofs.TurnLaws.{ends-at, ends-refused, ends-lost, ends-by, ends-onto, times-length}
 use Rattle.sheet.proofs.OpeningLaws.{counts-same, columns-stop, keys-stop, front-of, front-is}
 use denote.Ref.{now}
 use borrow.Author.Needs.{needs}

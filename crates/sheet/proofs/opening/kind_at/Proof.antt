@@ -3,8 +3,8 @@ use mathlib.Core.Path.{refl, sym, ap, subst}
 use native.Mathlib.Omega.{arith}
 use Rattle.values.specs.Reads.{fieldOf}
 use Rattle.values.proofs.ReadLaws.{field-found, field-lost}
-use Rattle.sheet.specs.Ends.{AtMost}
-use Rattle.sheet.proofs.FieldLaws.{value-is, refusal-is}
+use Rattle.clauses.specs.Ends.{AtMost}
+use Rattle.clauses.proofs.FieldLaws.{value-is, refusal-is}
 use Rattle.sheet.proofs.FrontLaws.{kind-lost, kind-high, kind-low}
 use denote.Ref.{now}
 use borrow.Author.Needs.{needs}

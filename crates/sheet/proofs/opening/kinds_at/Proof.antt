@@ -1,15 +1,15 @@
 -- `sheet::opening::kinds_at` meets its contract. The loop's invariant: the first i kinds were found, and stand by their numbers from `from` on.
 use Prim.Native.Nat.{ℕ, _+_, _<_, _≤_, _-_}
 use native.Mathlib.Omega.{arith}
-use mathlib.Core.Path.{_≡_, refl, ap}
+use mathlib.Core.Path.{_≡_, ap}
 use lib.ListN.{length, length-set}
 use Rattle.bits.specs.Fields.{placeAt}
 use Rattle.meaning.specs.Reading.{times, kind}
 use Rattle.values.proofs.ReadLaws.{found-by, refused-by}
-use Rattle.sheet.specs.declared.End.the-variants as end
-use Rattle.sheet.specs.Ends.{Got, ended, numbered}
+use Rattle.clauses.specs.declared.End.the-variants as end
+use Rattle.clauses.specs.Ends.{Got, ended, numbered}
 use Rattle.sheet.specs.Fronts.{KindsPut}
-use Rattle.sheet.proofs.TurnLaws.{field-stops, at-most, times-length, turns-none, turns-more, turns-lost, turns-done}
+use Rattle.clauses.proofs.TurnLaws.{field-stops, at-most, times-length, turns-none, turns-more, turns-lost, turns-done}
 use Rattle.sheet.proofs.FrontLaws.{numbered-found, numbered-refused, kinds-none, kinds-more}
 use denote.Ref.{now}
 use Rattle.sheet.proofs.opening.kinds_at.Statement.{statement}

@@ -2,8 +2,8 @@
 use mathlib.Core.Path.{refl, sym, _∙_}
 use native.Mathlib.Omega.{arith}
 use Rattle.values.proofs.ReadLaws.{field-found, field-lost}
-use Rattle.sheet.specs.Ends.{ended}
-use Rattle.sheet.proofs.TurnLaws.{field-stops, ends-lost}
+use Rattle.clauses.specs.Ends.{ended}
+use Rattle.clauses.proofs.TurnLaws.{field-stops, ends-lost}
 use Rattle.sheet.proofs.FrontLaws.{schema-lost, tags-lost, held-lost, table-found, table-high, field-low}
 use denote.Ref.{now}
 use borrow.Author.Needs.{needs}

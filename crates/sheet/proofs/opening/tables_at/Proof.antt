@@ -5,9 +5,9 @@ use mathlib.Core.Path.{_≡_}
 use lib.ListN.{length, length-set}
 use Rattle.bits.specs.Fields.{placeAt}
 use Rattle.meaning.specs.Reading.{times, table}
-use Rattle.sheet.specs.Ends.{Got, ended}
+use Rattle.clauses.specs.Ends.{Got, ended}
 use Rattle.sheet.specs.Fronts.{TablesIn}
-use Rattle.sheet.proofs.TurnLaws.{ends-at, ends-refused, ends-lost, turns-none, turns-more, turns-lost, turns-done, times-length}
+use Rattle.clauses.proofs.TurnLaws.{ends-at, ends-refused, ends-lost, turns-none, turns-more, turns-lost, turns-done, times-length}
 use Rattle.sheet.proofs.FrontLaws.{tables-none, tables-more}
 use denote.Ref.{now}
 use Rattle.sheet.proofs.opening.tables_at.Statement.{statement}

@@ -1,11 +1,11 @@
 -- `sheet::selectors::selector_at` meets its contract: a node, and what the definition reads after it, the depth falling at each call.
 use native.Mathlib.Omega.{arith}
-use mathlib.Core.Path.{refl, _∙_}
+use mathlib.Core.Path.{_∙_}
 use Rattle.meaning.specs.Sheets as sheets
 use Rattle.meaning.specs.Reading.{selector}
 use Rattle.values.proofs.ReadLaws.{field-found, field-lost}
-use Rattle.sheet.specs.Ends.{ended, stopped}
-use Rattle.sheet.proofs.TurnLaws.{field-stops, ends-by, ends-at, ends-refused, ends-lost, ends-map}
+use Rattle.clauses.specs.Ends.{ended, stopped}
+use Rattle.clauses.proofs.TurnLaws.{field-stops, ends-by, ends-at, ends-refused, ends-lost, ends-map}
 use Rattle.sheet.proofs.SelectorLaws.{field-small, too-deep, selector-lost, selector-of, inner-lost, not-of, and-of, or-of, not-so, and-so, or-so}
 use denote.Ref.{now}
 use Prim.Native.Nat.{ℕ, _<_}

@@ -6,8 +6,8 @@ use Rattle.meaning.specs.Sheets.{has-column, in-schema, table-number, tag-numbe
 use Rattle.meaning.specs.Reading.{numberBelow, field}
 use Rattle.values.specs.Reads.{fieldOf}
 use Rattle.values.proofs.ReadLaws.{field-read}
-use Rattle.sheet.specs.Ends.{ended}
-use Rattle.sheet.proofs.TurnLaws.{ends-by}
+use Rattle.clauses.specs.Ends.{ended}
+use Rattle.clauses.proofs.TurnLaws.{ends-by}
 use Rattle.sheet.proofs.SelectorLaws.{named, unnamed, node-all, node-column, node-schema, node-table, node-tag}
 use denote.Ref.{now}
 use borrow.Author.Needs.{needs}

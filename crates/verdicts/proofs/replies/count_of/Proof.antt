@@ -1,5 +1,4 @@
 -- `verdicts::replies::count_of` meets its contract: N is given at any size.
-use native.Mathlib.Omega.{arith}
 use borrow.Author.Needs.{needs}
 use Rattle.verdicts.proofs.AnswerLaws.{count-refused, count-reply}
 use Rattle.verdicts.proofs.replies.count_of.Statement.{statement}

@@ -1,5 +1,4 @@
 -- `verdicts::replies::dead_of` meets its contract: what does not stand is refused.
-use native.Mathlib.Omega.{arith}
 use borrow.Author.Needs.{needs}
 use Rattle.verdicts.proofs.AnswerLaws.{life-refused, life-reply}
 use Rattle.verdicts.proofs.replies.dead_of.Statement.{statement}

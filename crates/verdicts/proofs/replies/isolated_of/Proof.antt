@@ -1,5 +1,4 @@
 -- `verdicts::replies::isolated_of` meets its contract: what does not stand is refused.
-use native.Mathlib.Omega.{arith}
 use borrow.Author.Needs.{needs}
 use Rattle.verdicts.proofs.AnswerLaws.{isolation-refused, isolation-reply}
 use Rattle.verdicts.proofs.replies.isolated_of.Statement.{statement}

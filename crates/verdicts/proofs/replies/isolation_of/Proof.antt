@@ -1,5 +1,4 @@
 -- `verdicts::replies::isolation_of` meets its contract: 13 before the search.
-use native.Mathlib.Omega.{arith}
 use borrow.Author.Needs.{needs}
 use Rattle.verdicts.proofs.AnswerLaws.{many-isolation, isolation-by}
 use Rattle.verdicts.proofs.replies.isolation_of.Statement.{statement}

@@ -1,5 +1,4 @@
 -- `verdicts::replies::life_of` meets its contract: 13 before the search.
-use native.Mathlib.Omega.{arith}
 use borrow.Author.Needs.{needs}
 use Rattle.verdicts.proofs.AnswerLaws.{many-life, live-told, dead-by}
 use Rattle.verdicts.proofs.replies.life_of.Statement.{statement}

@@ -1,5 +1,4 @@
 -- `verdicts::replies::question_of` meets its contract: roles, counts, N and ranges are the sheet's.
-use native.Mathlib.Omega.{arith}
 use borrow.Author.Needs.{needs}
 use Rattle.verdicts.proofs.AnswerLaws.{posing}
 use Rattle.verdicts.proofs.replies.question_of.Statement.{statement}

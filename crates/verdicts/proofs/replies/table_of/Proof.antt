@@ -1,5 +1,4 @@
 -- `verdicts::replies::table_of` meets its contract: table and command are judged in full.
-use native.Mathlib.Omega.{arith}
 use borrow.Author.Needs.{needs}
 use Rattle.verdicts.proofs.AnswerLaws.{no-table, no-command, stands}
 use Rattle.verdicts.proofs.replies.table_of.Statement.{statement}

@@ -1,0 +1,4 @@
+pub mod FieldLaws
+pub mod TurnLaws
+pub mod AtomLaws
+pub mod HeldLaws
