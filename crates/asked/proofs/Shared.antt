@@ -50,13 +50,16 @@ clause-seen m n second [] h = refl
 clause-seen m n second (a ∷ c) h =
     both _&&_ (passes-seen m n second (a .operator) (m (slotOf second (a .variable))) (h .0 .1) ∙ ap (passes n (a .operator)) (h .0 .0)) (clause-seen m n second c (h .1))
 
+pub used-seen : (held : ℕ → Bool) (sheet : Sheet) (second : Bool) (m n : Contents) → ((v : ℕ) → There held sheet v → m (slotOf second v) ≡ n v) → (c : Clause) → Uses held sheet c → clauseMet m (map (seen second) c) ≡ clauseMet n c
+used-seen held sheet second m n h c u = clause-seen m n second c (all-map (λ x. all-map h (x .variable ∷ sheets.second (x .operator))) c u)
+
 -- the engine's numbers
 
 module _ (row one two : Contents) where
-  three-column : (v : ℕ) → v < 16 → three row one two v ≡ row v
+  pub three-column : (v : ℕ) → v < 16 → three row one two v ≡ row v
   three-column v l = ap (λ (b : Bool). cond b (row v) (cond (ltb v 24) (one (v - 16)) (two (v - 24)))) (lt-ltb v 16 l)
 
-  three-one : (v : ℕ) → 16 ≤ v → v < 24 → three row one two v ≡ one (v - 16)
+  pub three-one : (v : ℕ) → 16 ≤ v → v < 24 → three row one two v ≡ one (v - 16)
   three-one v l h =
       ap (λ (b : Bool). cond b (row v) (cond (ltb v 24) (one (v - 16)) (two (v - 24)))) (le-ltb v 16 l) ∙ ap (λ (b : Bool). cond b (one (v - 16)) (two (v - 24))) (lt-ltb v 24 h)
 
@@ -202,7 +205,7 @@ module _ (held : ℕ → Bool) (sheet : Sheet) where
   -- the words' atoms are those of a, for the first session, and those of b, for the second
   module _ (s top : List ℕ) (a b : Clause) (w : (m : Contents) → clauseMet m (wordAtoms s (atoms s)) ≡ clauseMet m (map (seen false) a ++ map (seen true) b)) (ranges : Ranges sheet top) (ua : Uses held sheet a) (ub : Uses held sheet b) where
     use-of : (second : Bool) (m n : Contents) → ((v : ℕ) → There held sheet v → m (slotOf second v) ≡ n v) → (c : Clause) → Uses held sheet c → clauseMet m (map (seen second) c) ≡ clauseMet n c
-    use-of second m n h c u = clause-seen m n second c (all-map (λ x. all-map h (x .variable ∷ sheets.second (x .operator))) c u)
+    use-of = used-seen held sheet
 
     pub sat-both : (P : Contents → Type 0) (d : ℕ → e.Content) → Sat s top d → P (three (rowOf d) (keysFrom d 16) (keysFrom d 24)) → Both held sheet a b P
     sat-both P d h p =

@@ -1,5 +1,5 @@
 -- What is asked of the engine, in the document's words.
-use Prim.Native.Nat.{ℕ, _+_, _-_, _<_}
+use Prim.Native.Nat.{ℕ, _+_, _-_, _<_, _≤_}
 use mathlib.Core.Path.{_≡_}
 use mathlib.Core.Bool.{Bool, true, false, cond}
 use mathlib.Core.List.{List, _∷_, _++_, map}
@@ -121,3 +121,9 @@ abbrev pub TellsLeak : List ℕ → ℕ → List ℕ → Bool → Type 0
 TellsLeak words n top r =
     (held : ℕ → Bool) (sheet : Sheet) (a b : Clause) → Laid words n a b → Ranges sheet top → Uses held sheet a → Uses held sheet b → There held sheet 16 →
     Decides (Both held sheet a b (λ m. m 16 ≡ m 24 → ⊥)) r
+
+-- the mark of laid atoms: two more than a column that they equate with key 0, or 1; whoever meets them holds the same in both
+pub record Anchors (words : List ℕ) (n r : ℕ) : Type 0 where
+  pub some : 1 ≤ r
+  pub column : r ≤ 17
+  pub same : (c : ℕ) (m : Contents) → r ≡ c + 2 → clauseMet m (wordAtoms words n) ≡ true → m c ≡ m 16

@@ -8,10 +8,12 @@ ghost use Prim.Native.Nat.{ℕ, _+_, _*_, _/_, _%_, _≤_, _<_};
 ghost use lib.ListN.{length, getD};
 ghost use Rattle.meaning.specs.Questions.{ClauseCovers, LiveClause};
 ghost use Rattle.meaning.specs.Views.{atomOf, clauseOf, KindsAre};
-ghost use Rattle.asked.specs.Words.{slotOf, upTo8, thirdOf, seen, wordAtoms};
-ghost use Rattle.meaning.specs.Atoms.{equals, is-null};
+ghost use Rattle.asked.specs.Words.{slotOf, upTo8, thirdOf, seen, wordAtom, wordAtoms};
+ghost use mathlib.Core.Bool.{true};
+ghost use Rattle.meaning.specs.Values.{Contents};
+ghost use Rattle.meaning.specs.Atoms.{equals, is-null, met};
 ghost use Rattle.meaning.specs.Steps.{on};
-ghost use Rattle.asked.specs.Asked.{lastOf, kindPlace, Ranges, Tells, Differs, turned, turnedNumber, TellsMeets, TellsLeak};
+ghost use Rattle.asked.specs.Asked.{lastOf, kindPlace, Ranges, Tells, Differs, turned, turnedNumber, TellsMeets, TellsLeak, Anchors};
 ghost use Rattle.meaning.specs.Sheets.{Sheet};
 use meaning::Atom;
 use meaning::Clause;
@@ -230,6 +232,50 @@ pub fn leaks(words: &[u64], n: usize, top: [u64; 32]) -> bool
 {
     let m = n * 11;
     reach::parted(&words[..m], top, 16, 24)
+}
+
+// The mark of a column: two more than its number; 1 of what is none.
+fn mark_of(c: u64) -> u8
+    ensures { λ r. ⌜ (1 ≤ r) × (r ≤ 17) × ((n : ℕ) → r ≡ n + 2 → c ≡ n) ⌝ }
+{
+    if c < 16 {
+        return (c + 2) as u8;
+    }
+    1
+}
+
+// The mark of the column that atom i equates with key 0; 1 where it equates none.
+fn anchor_at(words: &[u64], i: usize) -> u8
+    requires { ⌜ i * 11 + 11 ≤ length (now words) ⌝ }
+    ensures { λ r. ⌜ (1 ≤ r) × (r ≤ 17) × ((c : ℕ) (m : Contents) → r ≡ c + 2 → met m (wordAtom (now (words .entry)) i) ≡ true → m c ≡ m 16) ⌝ }
+{
+    let v = words[i * 11] % 32;
+    let u = words[i * 11 + 2] % 32;
+    if words[i * 11 + 1] == 0 {
+        if v == 16 {
+            return mark_of(u);
+        }
+        if u == 16 {
+            return mark_of(v);
+        }
+    }
+    1
+}
+
+// The mark of a column that the n laid atoms equate with key 0; 1 where they equate none.
+pub fn anchor(words: &[u64], n: usize) -> u8
+    requires { ⌜ n * 11 ≤ length (now words) ⌝ }
+    ensures { λ r. ⌜ Anchors (now (words .entry)) n r ⌝ }
+{
+    let mut i = 0;
+    while i < n {
+        let mark = anchor_at(words, i);
+        if 1 < mark {
+            return mark;
+        }
+        i += 1;
+    }
+    1
 }
 
 // The last value of a kind by its number.

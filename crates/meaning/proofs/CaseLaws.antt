@@ -78,7 +78,7 @@ in-one e n (Value m) h = go (eqb m n) refl h
     go true q r = ap Value (eqb-true m n q)
     go false q r = absurd (true≢false (sym r))
 
-equal-is : (e : Contents) (u : ℕ) (c : Content) → passes e (equals u) c ≡ true → c ≡ e u
+pub equal-is : (e : Contents) (u : ℕ) (c : Content) → passes e (equals u) c ≡ true → c ≡ e u
 equal-is e u Null h = absurd (true≢false (sym h))
 equal-is e u (Value n) h = go (e u) h
   where

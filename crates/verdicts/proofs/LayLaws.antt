@@ -20,12 +20,13 @@ use Rattle.branches.specs.Parts.{upTo, branchesOf, picked, besides, conjunction
 use Rattle.branches.proofs.JoinLaws.{nil-right}
 use Rattle.branches.proofs.SheetLaws.{branches-are, counts-sized}
 use Rattle.asked.specs.Words.{wordAtom, wordAtoms, seen}
-use Rattle.asked.specs.Asked.{Uses, TellsMeets, TellsLeak}
+use Rattle.asked.specs.Asked.{Uses, TellsMeets, TellsLeak, Anchors}
 use Rattle.asked.proofs.UseLaws.{branches-used, key-there}
+use Rattle.asked.proofs.AnchorLaws.{anchored-so}
 use Rattle.covering.specs.Covering.{Read}
 use Rattle.covering.proofs.CoverLaws.{Counted, count-is, few-clauses}
 use Rattle.verdicts.specs.declared.Question.{Question}
-use Rattle.verdicts.specs.Questions.{Poses, LaidAt, OtherMeets, TellsBranch, TellsPair, KeepsAtoms, branchAt, heldBy}
+use Rattle.verdicts.specs.Questions.{Poses, LaidAt, OtherMeets, TellsMark, TellsBranch, TellsPair, KeepsAtoms, branchAt, heldBy}
 
 map-append : (f : Atom → Atom) (xs ys : List Atom) → map f (xs ++ ys) ≡ map f xs ++ map f ys
 map-append f [] ys = refl
@@ -140,6 +141,22 @@ laid-at s d book q k b first words n picks laid =
 pub branch-told : (s : List ℕ) (d : Directory) (book : List ℕ) (q : Question) (k : ℕ) (words : List ℕ) (n : ℕ) (r : Bool) → LaidAt s d book q k words n → TellsMeets words n (q .top) r → TellsBranch s d book q k r
 branch-told s d book q k words n r h told =
     record { tells = λ sheet t command p l. told (heldBy sheet t) sheet (branchAt sheet t command k) (h .laid sheet t command p l) (p .ranges) (branch-used s d book q sheet t command p k l) }
+
+-- the mark of a laid branch
+module _ (s : List ℕ) (d : Directory) (book : List ℕ) (q : Question) (k : ℕ) (words : List ℕ) (n : ℕ) (h : LaidAt s d book q k words n) where
+  pub marked-met : (r : ℕ) → Anchors words n r → TellsMark s d book q k r
+  marked-met r a =
+      record {
+        unmet = λ sheet t command p l e m. let some = a .some in absurd (omega arith);
+        anchored = λ sheet t command c p l e. anchored-so (heldBy sheet t) sheet words n r c (branchAt sheet t command k) a e (h .laid sheet t command p l) (branch-used s d book q sheet t command p k l);
+      }
+
+  pub marked-unmet : {r : Bool} → TellsMeets words n (q .top) r → r ≡ false → TellsMark s d book q k 0
+  marked-unmet {r} told f =
+      record {
+        unmet = λ sheet t command p l e m. branch-told s d book q k words n r h told .tells sheet t command p l .no f m;
+        anchored = λ sheet t command c p l e. absurd (omega arith);
+      }
 
 -- what is answered of two laid branches
 pub pair-told : (s : List ℕ) (d : Directory) (book : List ℕ) (q : Question) (words both : List ℕ) (n m b : ℕ) (c : Branch) (r : Bool) → Picks (q .roles) (q .counts) b c →

@@ -1,5 +1,5 @@
 -- The search for the first leaking pair and the search for a live branch: how far they have got, and what they may answer.
-use Prim.Native.Nat.{ℕ, _+_, _<_, _≤_}
+use Prim.Native.Nat.{ℕ, _+_, _-_, _<_, _≤_}
 use native.Mathlib.Omega.{arith}
 use native.Mathlib.Decide.{ℕ-discrete, decLt}
 use mathlib.Core.Path.{_≡_, sym, ap, subst, _∙_}
@@ -20,7 +20,7 @@ use Rattle.sheet.specs.declared.Directory.{Directory}
 use Rattle.asked.specs.Asked.{Meets}
 use Rattle.verdicts.proofs.LayLaws.{branch-used}
 use Rattle.verdicts.specs.declared.Question.{Question}
-use Rattle.verdicts.specs.Questions.{Poses, LaidAt, OtherMeets, Marks, TellsBranch, TellsPair, TellsLeaking, KeepsAtoms, branchAt, heldBy}
+use Rattle.verdicts.specs.Questions.{Poses, LaidAt, OtherMeets, Anchored, Marks, TellsMark, TellsBranch, TellsPair, TellsLeaking, KeepsAtoms, branchAt, heldBy}
 
 module _ (sheet : Sheet) (t command : ℕ) where
   there : (k : ℕ) → k < branchCount sheet t command → k < length (branches sheet t command)
@@ -179,17 +179,37 @@ module _ (s : List ℕ) (d : Directory) (book : List ℕ) (q : Question) where
 
   -- the marks
   pub marks-start : (marks : List ℕ) → marks ≡ replicate 256 1 → Marks s d book q marks
-  marks-start marks e = record { unmet = λ sheet t command k p l g z m. let o : getD marks k 0 ≡ 1 = ap (λ xs. getD xs k 0) e ∙ getD-replicate 256 k 1 0 g in absurd (omega arith) }
-
-  pub marks-next : (marks : List ℕ) (k x : ℕ) (r : Bool) → k < length marks → (x ≡ 0 → r ≡ false) →
-      TellsBranch s d book q k r → Marks s d book q marks → Marks s d book q (set marks k x)
-  marks-next marks k x r i zeroed told had = record { unmet = λ sheet t command j p l g z m. go sheet t command j p l g z m (ℕ-discrete j k) }
+  marks-start marks e =
+      record {
+        unmet = λ sheet t command k p l g z m. let o = ones k g in absurd (omega arith);
+        anchored = λ sheet t command k c p l g z. let o = ones k g in absurd (omega arith);
+      }
     where
-      go : (sheet : Sheet) (t command j : ℕ) → Poses s d book q sheet t command → j < branchCount sheet t command → j < 256 → getD (set marks k x) j 0 ≡ 0 → Meets (heldBy sheet t) sheet (branchAt sheet t command j) → Dec (j ≡ k) → ⊥
-      go sheet t command j p l g z m (yes e) =
-          let w : x ≡ 0 = sym (getD-set-same marks k x 0 i) ∙ ap (λ n. getD (set marks k x) n 0) (sym e) ∙ z in
-          told .tells sheet t command p (subst (λ n. n < branchCount sheet t command) e l) .no (zeroed w) (subst (λ n. Meets (heldBy sheet t) sheet (branchAt sheet t command n)) e m)
-      go sheet t command j p l g z m (no e) = had .unmet sheet t command j p l g (sym (getD-set-other marks k j x 0 e) ∙ z) m
+      ones : (k : ℕ) → k < 256 → getD marks k 0 ≡ 1
+      ones k g = ap (λ xs. getD xs k 0) e ∙ getD-replicate 256 k 1 0 g
+
+  pub marks-next : (marks : List ℕ) (k x : ℕ) → k < length marks → TellsMark s d book q k x → Marks s d book q marks → Marks s d book q (set marks k x)
+  marks-next marks k x i told had =
+      record {
+        unmet = λ sheet t command j p l g z m. unmet sheet t command j p l g z m (ℕ-discrete j k);
+        anchored = λ sheet t command j c p l g z. anchored sheet t command j c p l g z (ℕ-discrete j k);
+      }
+    where
+      here : (j : ℕ) → j ≡ k → getD (set marks k x) j 0 ≡ x
+      here j e = ap (λ n. getD (set marks k x) n 0) e ∙ getD-set-same marks k x 0 i
+
+      other : (j : ℕ) → (j ≡ k → ⊥) → getD (set marks k x) j 0 ≡ getD marks j 0
+      other j e = getD-set-other marks k j x 0 e
+
+      unmet : (sheet : Sheet) (t command j : ℕ) → Poses s d book q sheet t command → j < branchCount sheet t command → j < 256 → getD (set marks k x) j 0 ≡ 0 → Meets (heldBy sheet t) sheet (branchAt sheet t command j) → Dec (j ≡ k) → ⊥
+      unmet sheet t command j p l g z m (yes e) =
+          told .unmet sheet t command p (subst (λ n. n < branchCount sheet t command) e l) (sym (here j e) ∙ z) (subst (λ n. Meets (heldBy sheet t) sheet (branchAt sheet t command n)) e m)
+      unmet sheet t command j p l g z m (no e) = had .unmet sheet t command j p l g (sym (other j e) ∙ z) m
+
+      anchored : (sheet : Sheet) (t command j c : ℕ) → Poses s d book q sheet t command → j < branchCount sheet t command → j < 256 → getD (set marks k x) j 0 ≡ c + 2 → Dec (j ≡ k) → Anchored (branchAt sheet t command j) c
+      anchored sheet t command j c p l g z (yes e) =
+          subst (λ n. Anchored (branchAt sheet t command n) c) (sym e) (told .anchored sheet t command c p (subst (λ n. n < branchCount sheet t command) e l) (sym (here j e) ∙ z))
+      anchored sheet t command j c p l g z (no e) = had .anchored sheet t command j c p l g (sym (other j e) ∙ z)
 
   -- a pair with a branch that nobody meets does not leak
   pub passed-first : (marks words : List ℕ) (n a b : ℕ) → a < 256 → getD marks a 0 ≡ 0 → TellsLeaking s d book q marks words n a b false
@@ -203,6 +223,19 @@ module _ (s : List ℕ) (d : Directory) (book : List ℕ) (q : Question) where
       record {
         tells = λ sheet t command p h la lb w.
             record { yes = λ e. absurd (true≢false (sym e)); no = λ e k. h .unmet sheet t command b p lb l z (leak-met sheet t command b a (leak-symmetric sheet t command a b k)) };
+      }
+
+  -- two sessions that meet branches with their tenant in the same column, for one row, are of the same tenant
+  pub passed-anchored : (marks words : List ℕ) (n a b : ℕ) → a < 256 → b < 256 → 1 < getD marks a 0 → getD marks a 0 ≡ getD marks b 0 → TellsLeaking s d book q marks words n a b false
+  passed-anchored marks words n a b l g z e =
+      let c = getD marks a 0 - 2 in
+      let i : getD marks a 0 ≡ c + 2 = omega arith in
+      record {
+        tells = λ sheet t command p h la lb w.
+            record {
+              yes = λ f. absurd (true≢false (sym f));
+              no = λ f k. k .other-tenant (sym (h .anchored sheet t command a c p la l i (k .row) (k .one) (k .meets-a)) ∙ h .anchored sheet t command b c p lb g (sym e ∙ i) (k .row) (k .two) (k .meets-b));
+            };
       }
 
   -- the answer on what is laid is the answer on the pair

@@ -1,11 +1,12 @@
 -- What the verdicts ask of a table and command, and how far their searches have got.
-use Prim.Native.Nat.{ℕ, _<_}
+use Prim.Native.Nat.{ℕ, _+_, _<_}
 use mathlib.Core.Path.{_≡_}
-use mathlib.Core.Bool.{Bool, false}
+use mathlib.Core.Bool.{Bool, true, false}
 use mathlib.Core.List.{List, [], map}
 use lib.ListN.{length, getD}
 use Rattle.lists.specs.Decides.{Decides}
-use Rattle.meaning.specs.Atoms.{Clause}
+use Rattle.meaning.specs.Values.{Contents, with}
+use Rattle.meaning.specs.Atoms.{Clause, clauseMet}
 use Rattle.meaning.specs.Sheets.{Sheet, tableAt, holds, branches, branchCount}
 use Rattle.meaning.specs.Questions.{Leak}
 use Rattle.meaning.specs.Replies.{asks, refuses, askedTable}
@@ -59,9 +60,19 @@ pub record TellsPair (s : List ℕ) (d : Directory) (book : List ℕ) (q : Quest
 pub record KeepsAtoms (s : List ℕ) (d : Directory) (book : List ℕ) (n : ℕ) (words after : List ℕ) : Type 0 where
   pub kept : (sheet : Sheet) → Read s d book sheet → wordAtoms after n ≡ wordAtoms words n
 
--- a branch marked 0 is met by nobody
+-- whoever meets the branch holds the same in column c and in key 0
+abbrev pub Anchored : Clause → ℕ → Type 0
+Anchored branch c = (row one : Contents) → clauseMet (with row one) branch ≡ true → row c ≡ one 0
+
+-- a branch marked 0 is met by nobody; one marked c + 2 has its tenant in column c
 pub record Marks (s : List ℕ) (d : Directory) (book : List ℕ) (q : Question) (marks : List ℕ) : Type 0 where
   pub unmet : (sheet : Sheet) (t command k : ℕ) → Poses s d book q sheet t command → k < branchCount sheet t command → k < 256 → getD marks k 0 ≡ 0 → Meets (heldBy sheet t) sheet (branchAt sheet t command k) → ⊥
+  pub anchored : (sheet : Sheet) (t command k c : ℕ) → Poses s d book q sheet t command → k < branchCount sheet t command → k < 256 → getD marks k 0 ≡ c + 2 → Anchored (branchAt sheet t command k) c
+
+-- the mark of branch k
+pub record TellsMark (s : List ℕ) (d : Directory) (book : List ℕ) (q : Question) (k r : ℕ) : Type 0 where
+  pub unmet : (sheet : Sheet) (t command : ℕ) → Poses s d book q sheet t command → k < branchCount sheet t command → r ≡ 0 → Meets (heldBy sheet t) sheet (branchAt sheet t command k) → ⊥
+  pub anchored : (sheet : Sheet) (t command c : ℕ) → Poses s d book q sheet t command → k < branchCount sheet t command → r ≡ c + 2 → Anchored (branchAt sheet t command k) c
 
 -- the answer says whether branches a, laid in the words, and b leak
 pub record TellsLeaking (s : List ℕ) (d : Directory) (book : List ℕ) (q : Question) (marks words : List ℕ) (n a b : ℕ) (r : Bool) : Type 0 where

@@ -15,7 +15,7 @@ ghost use Rattle.meaning.specs.Replies.{IsolationOf};
 ghost use Rattle.branches.specs.Parts.{clausesOf, conjunction};
 ghost use Rattle.asked.specs.Words.{wordAtoms, seen};
 ghost use Rattle.covering.specs.Covering.{Read};
-ghost use Rattle.verdicts.specs.Questions.{Poses, LaidAt, TellsBranch, TellsPair, TellsLeaking, KeepsAtoms, Marks};
+ghost use Rattle.verdicts.specs.Questions.{Poses, LaidAt, TellsBranch, TellsPair, TellsLeaking, KeepsAtoms, Marks, TellsMark};
 
 pub mod replies;
 
@@ -143,27 +143,32 @@ fn is_live(s: &[u8], d: Directory, book: &[u32], q: Question) -> bool
     false
 }
 
-fn mark(met: bool) -> u8
-    ensures { λ r. ⌜ (r ≡ 0 → met ≡ false) ⌝ }
+// The mark of branch k: 0 where nobody meets it; else two more than a column that it equates with key 0, or 1.
+fn mark(s: &[u8], d: Directory, book: &[u32], q: Question, k: u64, words: &mut [u64]) -> u8
+    requires { ⌜ 1408 ≤ length (now words) ⌝ }
+    ensures { λ r. ⌜ TellsMark (now (s .entry)) d (now (book .entry)) q k r ⌝ }
 {
-    if met {
-        return 1;
+    let top = q.top;
+    let n = lay_at(s, d, book, q, k, words);
+    if asked::meets(words, n, top) {
+        return asked::anchor(words, n);
     }
     0
 }
 
-// The branches that nobody meets are marked 0.
+// The marks of the branches.
 fn marked(s: &[u8], d: Directory, book: &[u32], q: Question) -> [u8; 256]
     ensures { λ r. ⌜ Marks (now (s .entry)) d (now (book .entry)) q r ⌝ }
 {
     let n = q.number;
+    let mut words = [0u64; 1408];
     let mut marks = [1u8; 256];
     let mut k: usize = 0;
     while k < 256 {
         if n <= k as u64 {
             return marks;
         }
-        marks[k] = mark(branch_met(s, d, book, q, k as u64));
+        marks[k] = mark(s, d, book, q, k as u64, &mut words);
         k += 1;
     }
     marks
@@ -191,7 +196,8 @@ fn pair_leaks(
     asked::leaks(words, m, top)
 }
 
-// Does the pair of branch a, whose n atoms are laid, and branch b leak? Branches that nobody meets are passed over.
+// Does the pair of branch a, whose n atoms are laid, and branch b leak? Branches that nobody meets are passed over, and so are two that have
+// their tenant in the same column: that is how most sheets keep tenants apart.
 fn leaks_at(
     s: &[u8],
     d: Directory,
@@ -212,6 +218,11 @@ fn leaks_at(
     }
     if marks[b] == 0 {
         return false;
+    }
+    if 1 < marks[a] {
+        if marks[a] == marks[b] {
+            return false;
+        }
     }
     pair_leaks(s, d, book, q, words, n, b as u64)
 }

@@ -19,6 +19,11 @@ fn own() -> Atom {
     equal(HOUSE, SESSION_HOUSE)
 }
 
+/// Only sessions of house 1: tenants are kept apart without an equality.
+fn one_house() -> Atom {
+    within(SESSION_HOUSE, &[1])
+}
+
 fn between(least: i64, most: i64) -> [Atom; 2] {
     [is(SEATS, Test::AtLeast(least)), is(SEATS, Test::AtMost(most))]
 }
@@ -78,8 +83,15 @@ pub enum Leak {
     None,
 }
 
+/// What keeps tenants apart.
+#[derive(Clone, Copy, Debug, PartialEq, Eq)]
+pub enum Apart {
+    Equality,
+    List,
+}
+
 /// A sheet of N branches, N being 1, 16, 64 or 256, all live.
-pub fn branches(n: usize, leak: Leak) -> Sheet {
+pub fn branches(n: usize, leak: Leak, apart: Apart) -> Sheet {
     let (permissive, restrictive) = if n == 256 { (64, 4) } else { (n, 1) };
     let open = |place: usize, count: usize| match leak {
         Leak::First => place == 0,
@@ -88,7 +100,7 @@ pub fn branches(n: usize, leak: Leak) -> Sheet {
     };
     let with = |mut atoms: Clause, is_open: bool| {
         if !is_open {
-            atoms.push(own());
+            atoms.push(if apart == Apart::Equality { own() } else { one_house() });
         }
         atoms
     };
@@ -100,8 +112,8 @@ pub fn branches(n: usize, leak: Leak) -> Sheet {
     sheet.restrict("S", Selector::All, &guards)
 }
 
-/// The worst sheet found: 256 branches of 128 atoms with eight values each, isolated, all live, the
-/// values struck out one by one from where the search begins.
+/// The worst sheet found: 256 branches of 128 atoms with eight values each, isolated without an
+/// equality, all live, the values struck out one by one from where the search begins.
 pub fn worst() -> Sheet {
     let mut next = 0;
     let mut strikes = |atoms: usize| -> Clause {
@@ -111,7 +123,7 @@ pub fn worst() -> Sheet {
         };
         (0..atoms).map(|_| list()).collect()
     };
-    let first = [vec![own(), is(SEATS, Test::AtLeast(0))], strikes(6)].concat();
+    let first = [vec![one_house(), is(SEATS, Test::AtLeast(0))], strikes(6)].concat();
     let mut sheet = table().permit("S", Selector::All, &[first]);
     for place in 0..15 {
         let clauses: Vec<Clause> = (0..if place < 8 { 2 } else { 1 }).map(|_| strikes(8)).collect();

@@ -2,7 +2,7 @@
 
 use super::listings::rows;
 use super::report::Report;
-use super::sheets::{self, Leak};
+use super::sheets::{self, Apart, Leak};
 use super::stack;
 use crate::cases::limits;
 use crate::library::{self, exports};
@@ -24,8 +24,8 @@ pub fn stacks(report: &mut Report) {
     let inputs: Vec<Vec<u8>> = vec![
         many,
         pack::sheet(&limits::sheet_of(16_384)),
-        pack::sheet(&sheets::branches(64, Leak::None)),
-        pack::sheet(&sheets::branches(256, Leak::First)),
+        pack::sheet(&sheets::branches(64, Leak::None, Apart::List)),
+        pack::sheet(&sheets::branches(256, Leak::First, Apart::List)),
         pack::sheet(&sheets::of_bytes(16_000)),
         pack::sheet(&sheets::of_atoms(8)),
         nested(6),

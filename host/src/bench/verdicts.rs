@@ -3,7 +3,7 @@
 use super::figures::{by_library, cell, ratio, times_as};
 use super::plot::Series;
 use super::report::Report;
-use super::sheets::{self, Leak};
+use super::sheets::{self, Apart, Leak};
 use super::smt;
 use super::time::{readable, time, Effort, Rounds, Timing, QUICK};
 use crate::library::{self, exports};
@@ -42,6 +42,7 @@ pub fn verdicts(report: &mut Report, effort: Effort, quick: bool) -> io::Result<
     report.table(
         "Verdicts: isolated",
         &[
+            "kept apart by",
             "leak",
             "N",
             "library",
@@ -53,9 +54,12 @@ pub fn verdicts(report: &mut Report, effort: Effort, quick: bool) -> io::Result<
         ],
     );
     let mut plots: [Vec<(f64, f64)>; 4] = Default::default();
-    for n in [1, 16, 64, 256] {
-        for leak in [Leak::First, Leak::Last, Leak::None] {
-            let sheet = sheets::branches(n, leak);
+    let mut totals = [0.0; 2];
+    for apart in [Apart::Equality, Apart::List] {
+        for (n, leak) in
+            [1, 16, 64, 256].iter().flat_map(|&n| [Leak::First, Leak::Last, Leak::None].map(|leak| (n, leak)))
+        {
+            let sheet = sheets::branches(n, leak, apart);
             let packed = pack::sheet(&sheet);
             let ours = by_library(effort, "isolated", || library::isolated(&packed, 0, 0));
             let rust = time(effort, || calls::isolated(&packed, 0, 0));
@@ -73,9 +77,13 @@ pub fn verdicts(report: &mut Report, effort: Effort, quick: bool) -> io::Result<
             }
             let times = [ours, Some(rust), whole.map(|t| t.0), paired.map(|t| t.0)];
             let [a, b, c, d] = times.map(|time| time.map(|time| time.median));
-            let name = [format!("{leak:?}").to_lowercase(), n.to_string()];
+            if let (Some(a), Some(d)) = (a, d) {
+                totals[0] += a;
+                totals[1] += d;
+            }
+            let name = [format!("{apart:?}").to_lowercase(), format!("{leak:?}").to_lowercase(), n.to_string()];
             report.row(&[&name[..], &times.map(cell)[..], &[ratio(d, a), ratio(d, b)]].concat());
-            if leak == Leak::None {
+            if leak == Leak::None && apart == Apart::List {
                 for (series, time) in plots.iter_mut().zip([a, b, c, d]) {
                     series.extend(time.map(|time| (n as f64, time)));
                 }
@@ -90,13 +98,19 @@ pub fn verdicts(report: &mut Report, effort: Effort, quick: bool) -> io::Result<
         time(effort, || calls::isolated(&packed, 0, 0))
     });
     report.target("the worst sheet's verdict: under 5 s", ours.map(|time| (readable(time.median), time.median < 5.0)));
-    let cells = [format!("none; the worst sheet found, {} bytes", packed.len()), "256".into(), cell(ours)];
+    let worst = format!("none; the worst sheet found, {} bytes", packed.len());
+    let cells = ["list".into(), worst, "256".into(), cell(ours)];
     report.row(&[&cells[..], &[cell(rust)], &["-"; 4].map(String::from)].concat());
     let [ours, rust, whole, paired] = plots;
     let named = |name: &str, points| Series { name: name.into(), points };
     let series =
         [named("library", ours), named("Rust", rust), named("z3, one formula", whole), named("z3, first pair", paired)];
-    report.plot("verdicts.svg", "Isolated, no leak: N against time", "N", &series)
+    let total = (totals[0] > 0.0).then(|| totals[1] / totals[0]);
+    report.target(
+        "verdicts by number of branches: at least 100 times as fast as z3 in total",
+        total.map(|ratio| (format!("{ratio:.0}"), ratio >= 100.0)),
+    );
+    report.plot("verdicts.svg", "Isolated, no leak, no equality: N against time", "N", &series)
 }
 
 /// The questions dead, isolated and covers on random sheets; z3's answers must be the same.
