@@ -55,7 +55,9 @@ pub fn verdicts(report: &mut Report, effort: Effort, quick: bool) -> io::Result<
     );
     let mut plots: [Vec<(f64, f64)>; 4] = Default::default();
     let mut totals = [0.0; 2];
-    for apart in [Apart::Equality, Apart::List] {
+    // In the short form only what is searched.
+    let ways: &[Apart] = if quick { &[Apart::List] } else { &[Apart::Equality, Apart::List] };
+    for &apart in ways {
         for (n, leak) in
             [1, 16, 64, 256].iter().flat_map(|&n| [Leak::First, Leak::Last, Leak::None].map(|leak| (n, leak)))
         {
@@ -63,14 +65,15 @@ pub fn verdicts(report: &mut Report, effort: Effort, quick: bool) -> io::Result<
             let packed = pack::sheet(&sheet);
             let ours = by_library(effort, "isolated", || library::isolated(&packed, 0, 0));
             let rust = time(effort, || calls::isolated(&packed, 0, 0));
-            let whole = by_z3(&smt::isolated(&sheet, 0, 0), 10);
+            let often = if quick { 3 } else { 10 };
+            let whole = by_z3(&smt::isolated(&sheet, 0, 0), often);
             let first = match isolation(&sheet, 0, 0) {
                 Isolation::Isolated => None,
                 Isolation::Leaks(a, b) => Some((a as usize, b as usize)),
             };
             // In the short form z3 isn't asked for thousands of pairs.
             let few = first == Some((0, 0)) || n <= if quick { 16 } else { 256 };
-            let repeats = if first == Some((0, 0)) || n <= 16 { 10 } else { 1 };
+            let repeats = if first == Some((0, 0)) || n <= 16 { often } else { 1 };
             let paired = few.then(|| by_z3(&smt::pairs(&sheet, 0, 0, first), repeats)).flatten();
             if let (Some((_, whole)), Some((_, paired))) = (&whole, &paired) {
                 assert!(whole[0] == (leak != Leak::None) && paired.contains(&true) == whole[0], "z3 differs");
