@@ -220,21 +220,21 @@ fn next_open(
     k
 }
 
-// Is one of the clauses at the slots from `from` up to `end` met?
+// Is one of the clauses at the slots up to `end` met? None before slot `first` is, for none has an open head.
 fn is_one_met(
     s: &[u8],
     words: &[u16; 1024],
     heads: &[u64; 128],
-    from: usize,
+    first: usize,
     end: usize,
     kinds: &[u8; 24],
     present: &[u8; 24],
     values: &[u64; 24],
 ) -> bool
-    requires { ⌜ (from ≤ end) × (end ≤ 128) × (length (now words) ≡ 1024) × (length (now heads) ≡ 128) × Cells (now present) (now values) ⌝ }
-    ensures { λ r. ⌜ ((kind : ℕ → Kind) (cs : List Clause) → ((v : ℕ) → v < 24 → kindNumber (kind v) ≡ getD (now (kinds .entry)) v 0) → ClausesLaid kind (now (s .entry)) (now (words .entry)) (now (heads .entry)) from end cs → r ≡ policyMet (held (now (present .entry)) (now (values .entry))) cs) ⌝ }
+    requires { ⌜ (first ≤ end) × (end ≤ 128) × (length (now words) ≡ 1024) × (length (now heads) ≡ 128) × Cells (now present) (now values) ⌝ }
+    ensures { λ r. ⌜ ((from : ℕ) → from ≤ first → Closed (held (now (present .entry)) (now (values .entry))) (now (heads .entry)) from first → (kind : ℕ → Kind) (cs : List Clause) → ((v : ℕ) → v < 24 → kindNumber (kind v) ≡ getD (now (kinds .entry)) v 0) → ClausesLaid kind (now (s .entry)) (now (words .entry)) (now (heads .entry)) from end cs → r ≡ policyMet (held (now (present .entry)) (now (values .entry))) cs) ⌝ }
 {
-    let mut k = next_open(heads, from, end, present, values);
+    let mut k = first;
     while k < end {
         if is_clause_met(s, words, k, heads[k], kinds, present, values) {
             return true;
@@ -271,7 +271,9 @@ fn are_all_met(
         if 8 < count {
             return false;
         }
-        if is_one_met(s, words, heads, from, from + count, kinds, present, values) {
+        let end = from + count;
+        let first = next_open(heads, from, end, present, values);
+        if is_one_met(s, words, heads, first, end, kinds, present, values) {
             i += 1;
             continue;
         }
@@ -280,7 +282,8 @@ fn are_all_met(
     true
 }
 
-// Does a plan with `some` clauses of permissive policies, and with `all` restrictive policies, admit what the variables hold?
+// Does a plan with `some` clauses of permissive policies, and with `all` restrictive policies, admit what the variables hold? Most rows have no
+// open clause, and nothing more is asked of them.
 pub fn is_admitted(
     s: &[u8],
     words: &[u16; 1024],
@@ -295,7 +298,11 @@ pub fn is_admitted(
     requires { ⌜ (some ≤ 128) × (all ≤ 16) × (length (now words) ≡ 1024) × (length (now heads) ≡ 128) × (length (now counts) ≡ 16) × Cells (now present) (now values) ⌝ }
     ensures { λ r. ⌜ ((kind : ℕ → Kind) (cs : List Clause) (ps : List (List Clause)) → ((v : ℕ) → v < 24 → kindNumber (kind v) ≡ getD (now (kinds .entry)) v 0) → PlanLaid kind (now (s .entry)) (now (words .entry)) (now (heads .entry)) (now (counts .entry)) some all cs ps → r ≡ (policyMet (held (now (present .entry)) (now (values .entry))) cs && every (policyMet (held (now (present .entry)) (now (values .entry)))) ps)) ⌝ }
 {
-    if is_one_met(s, words, heads, 0, some, kinds, present, values) {
+    let first = next_open(heads, 0, some, present, values);
+    if some <= first {
+        return false;
+    }
+    if is_one_met(s, words, heads, first, some, kinds, present, values) {
         return are_all_met(s, words, heads, counts, all, kinds, present, values);
     }
     false

@@ -30,7 +30,7 @@ pub not-of : {A : Type 0} {r : Ended} (m : Read A) → r ≡ endOf m → r ≡ L
 not-of {A} {r} (found a o) e g = let h : At o ≡ Lost = sym e ∙ g in let z : _≡_ {A = ℕ} 0 1 = cc in absurd (omega arith)
 not-of {A} {r} (refused n) e g = (n, refl)
 
-contents-end : (first n : ℕ) (before after : Contents) (r : Ended) (m : Read (List Content)) → ContentsRead first n before after m r → r ≡ endOf m
+pub contents-end : (first n : ℕ) (before after : Contents) (r : Ended) (m : Read (List Content)) → ContentsRead first n before after m r → r ≡ endOf m
 contents-end first n before after r (found xs q) h = h .0
 contents-end first n before after r (refused k) h = h
 

@@ -4,6 +4,8 @@
 // byte. A row is the same over the columns that its table holds". Stands on bits, meaning and values; specs/Held.antt says what an answer
 // stands for.
 use bits::within64;
+use inner::contents_within;
+use inner::has_room;
 use meaning::Content;
 use values::last_of;
 use values::raw_of;
@@ -15,8 +17,13 @@ ghost use lib.ListN.{length};
 ghost use Rattle.bits.specs.Bits.{number};
 ghost use Rattle.meaning.specs.Values.{Kind, kindNumber};
 ghost use Rattle.meaning.specs.Sheets.{Sheet, Table, holds};
-ghost use Rattle.meaning.specs.Reading.{content, contents, padding, row, readSession, readRows};
-ghost use Rattle.rows.specs.Held.{contentFound, endedBy, within, endOf, held, Cells, Fields, ContentsRead, RowRead, RowEnds, SessionRead, isFound};
+ghost use Rattle.meaning.specs.Reading.{content, contents, padding, row, readSession};
+ghost use Rattle.rows.specs.Held.{contentFound, endedBy, within, endOf, held, Cells, Fields, ContentsRead, RowRead, SessionRead};
+
+pub mod inner;
+pub mod judging;
+
+pub use judging::are_rows;
 
 // What reading a content finds: the content with the bit number after it, or it is not of the form.
 pub enum ContentRead {
@@ -38,9 +45,9 @@ fn wide(b: u8) -> u64
 }
 
 // The bit at bit number p.
-fn bit_at(s: &[u8], p: usize) -> u64
+pub fn bit_at(s: &[u8], p: usize) -> u64
     requires { ⌜ p / 8 < length (now s) ⌝ }
-    ensures { λ r. ⌜ r ≡ number (now (s .entry)) p 1 ⌝ }
+    ensures { λ r. ⌜ (r ≡ number (now (s .entry)) p 1) × (r ≤ 1) ⌝ }
 {
     (wide(s[p / 8]) >> (7 - p % 8)) % 2
 }
@@ -110,7 +117,7 @@ pub fn contents_at(
 }
 
 // The bit number after the zero bits that fill the byte; a bit among them that is 1 is not of the form.
-fn padded(s: &[u8], p: usize) -> Ended
+pub fn padded(s: &[u8], p: usize) -> Ended
     requires { ⌜ (p ≤ 2 ^ 32) × (p ≤ length (now s) * 8) ⌝ }
     ensures { λ r. ⌜ (r ≡ endOf (padding (now (s .entry)) p)) × within p (p + 7) (length (now (s .entry)) * 8) r ⌝ }
 {
@@ -122,6 +129,25 @@ fn padded(s: &[u8], p: usize) -> Ended
         return Ended::At(p + w);
     }
     Ended::Lost
+}
+
+// The contents of the sheet's n columns, those that `there` names, at bit number `from`: the fast way where it goes.
+fn columns_at(
+    s: &[u8],
+    from: usize,
+    there: u64,
+    n: usize,
+    kinds: &[u8; 24],
+    present: &mut [u8; 24],
+    values: &mut [u64; 24],
+) -> Ended
+    requires { ⌜ (from ≤ 2 ^ 31) × (from ≤ length (now s) * 8) × (n ≤ 16) × Cells (now present) (now values) ⌝ }
+    ensures { λ r. ⌜ Cells (now (present .exit)) (now (values .exit)) × within from (from + 65 * n) (length (now (s .entry)) * 8) r × ((f : ℕ → Bool) (ks : List Kind) → Fields there 0 n (now (kinds .entry)) f ks → ContentsRead 0 n (held (now (present .entry)) (now (values .entry))) (held (now (present .exit)) (now (values .exit))) (contents f 0 ks (now (s .entry)) from) r) ⌝ }
+{
+    if has_room(s, from, n) {
+        return contents_within(s, from, there, 0, n, kinds, present, values);
+    }
+    contents_at(s, from, there, 0, n, kinds, present, values)
 }
 
 // The row at bit number `from` of a table that holds the columns `there` of the sheet's n.
@@ -137,7 +163,7 @@ pub fn row_at(
     requires { ⌜ (from ≤ 2 ^ 31) × (from ≤ length (now s) * 8) × (n ≤ 16) × Cells (now present) (now values) ⌝ }
     ensures { λ r. ⌜ Cells (now (present .exit)) (now (values .exit)) × within from (from + 65 * n + 7) (length (now (s .entry)) * 8) r × ((sheet : Sheet) (t : Table) → Fields there 0 n (now (kinds .entry)) (holds t) (sheet .columns) → RowRead n (held (now (present .entry)) (now (values .entry))) (held (now (present .exit)) (now (values .exit))) (row sheet t (now (s .entry)) from) r) ⌝ }
 {
-    let end = contents_at(s, from, there, 0, n, kinds, present, values);
+    let end = columns_at(s, from, there, n, kinds, present, values);
     let Ended::At(p) = end else {
         return Ended::Lost;
     };
@@ -164,85 +190,6 @@ pub fn session_at(
         return false;
     };
     s.len() <= q / 8
-}
-
-// Where the content of a kind at bit number p ends. Every 64 bits are an integer, so its bits are not looked at.
-fn content_end(s: &[u8], p: usize, kind: u8) -> Ended
-    requires { ⌜ p ≤ 2 ^ 32 ⌝ }
-    ensures { λ r. ⌜ within p (p + 65) (length (now (s .entry)) * 8) r × ((k : Kind) → kindNumber k ≡ kind → r ≡ endOf (content k (now (s .entry)) p)) ⌝ }
-{
-    if s.len() <= p / 8 {
-        return Ended::Lost;
-    }
-    if bit_at(s, p) == 0 {
-        return Ended::At(p + 1);
-    }
-    if s.len() < (p + 72) / 8 {
-        return Ended::Lost;
-    }
-    if kind == 0 {
-        return Ended::At(p + 65);
-    }
-    if raw_of(kind, within64(s, p + 1)) <= last_of(kind) {
-        return Ended::At(p + 65);
-    }
-    Ended::Lost
-}
-
-// Where the contents of the sheet's n columns end, those that `there` names.
-fn contents_end(s: &[u8], from: usize, there: u64, n: usize, kinds: &[u8; 24]) -> Ended
-    requires { ⌜ (from ≤ 2 ^ 31) × (from ≤ length (now s) * 8) × (n ≤ 16) ⌝ }
-    ensures { λ r. ⌜ within from (from + 65 * n) (length (now (s .entry)) * 8) r × ((f : ℕ → Bool) (ks : List Kind) → Fields there 0 n (now (kinds .entry)) f ks → r ≡ endOf (contents f 0 ks (now (s .entry)) from)) ⌝ }
-{
-    let mut p = from;
-    let mut c: usize = 0;
-    while c < n {
-        if (there >> (15 - c)) % 2 == 1 {
-            let got = content_end(s, p, kinds[c]);
-            let Ended::At(next) = got else {
-                return Ended::Lost;
-            };
-            p = next;
-            c += 1;
-            continue;
-        }
-        c += 1;
-    }
-    Ended::At(p)
-}
-
-// Where the row at bit number `from` ends.
-fn row_end(s: &[u8], from: usize, there: u64, n: usize, kinds: &[u8; 24]) -> Ended
-    requires { ⌜ (from ≤ 2 ^ 31) × (from ≤ length (now s) * 8) × (n ≤ 16) ⌝ }
-    ensures { λ r. ⌜ within from (from + 65 * n + 7) (length (now (s .entry)) * 8) r × ((sheet : Sheet) (t : Table) → Fields there 0 n (now (kinds .entry)) (holds t) (sheet .columns) → RowEnds (row sheet t (now (s .entry)) from) r) ⌝ }
-{
-    let end = contents_end(s, from, there, n, kinds);
-    let Ended::At(p) = end else {
-        return Ended::Lost;
-    };
-    padded(s, p)
-}
-
-// A whole row list: is it of the form?
-pub fn are_rows(s: &[u8], there: u64, n: usize, kinds: &[u8; 24]) -> bool
-    requires { ⌜ n ≤ 16 ⌝ }
-    ensures { λ r. ⌜ (r ≡ true → length (now (s .entry)) ≤ 65536) × ((sheet : Sheet) (t : Table) → Fields there 0 n (now (kinds .entry)) (holds t) (sheet .columns) → r ≡ isFound (readRows sheet t (now (s .entry)))) ⌝ }
-{
-    if 65536 < s.len() {
-        return false;
-    }
-    let mut p: usize = 0;
-    while p / 8 < s.len() {
-        let end = row_end(s, p, there, n, kinds);
-        let Ended::At(q) = end else {
-            return false;
-        };
-        if q <= p {
-            return false;
-        }
-        p = q;
-    }
-    true
 }
 
 // What variable v holds.

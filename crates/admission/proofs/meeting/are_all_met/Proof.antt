@@ -38,8 +38,11 @@ wide-requires c κs = search needs
 returns : tie.Need-returns Inv-loop μ-loop
 returns c = λ kind ps K L. absurd (let few = L .few _ (c .before .before .before .loop-test .taken) in let is = c .before .wide .ensures in omega arith)
 
-add-is-one-met : tie.Need-add-is-one-met Inv-loop μ-loop
-add-is-one-met c = search needs
+add-end : tie.Need-add-end Inv-loop μ-loop
+add-end c = search needs
+
+next-open-requires : tie.Need-next-open-requires Inv-loop μ-loop
+next-open-requires c κs = search needs
 
 is-one-met-requires : tie.Need-is-one-met-requires Inv-loop μ-loop
 is-one-met-requires c κs = search needs
@@ -51,10 +54,10 @@ loop-less : tie.Need-loop-less Inv-loop μ-loop
 loop-less c = search needs
 
 loop-again : tie.Need-loop-again Inv-loop μ-loop
-loop-again c = (omega arith, λ kind ps K L. one-more _ ps _ (c .before .before .before .before .before .before .loop .inv .1 kind ps K L) (c .before .is-one-met .ensures kind _ K (policy-laid kind _ _ _ _ _ ps L _ (c .before .before .before .before .before .loop-test .taken) (c .before .before .before .wide .ensures))) (c .if2 .taken))
+loop-again c = (omega arith, λ kind ps K L. one-more _ ps _ (c .before .before .before .before .before .before .before .loop .inv .1 kind ps K L) (c .before .is-one-met .ensures _ (c .before .before .next-open .ensures .0) (c .before .before .next-open .ensures .2) kind _ K (policy-laid kind _ _ _ _ _ ps L _ (c .before .before .before .before .before .before .loop-test .taken) (c .before .before .before .before .wide .ensures))) (c .if2 .taken))
 
 returns-2 : tie.Need-returns-2 Inv-loop μ-loop
-returns-2 c = λ kind ps K L. let n = L .size in let l = c .before .before .before .before .before .loop-test .taken in sym (one-denies _ ps _ (omega arith) (c .before .is-one-met .ensures kind _ K (policy-laid kind _ _ _ _ _ ps L _ l (c .before .before .before .wide .ensures))) (c .if2 .left))
+returns-2 c = λ kind ps K L. let n = L .size in let l = c .before .before .before .before .before .before .loop-test .taken in sym (one-denies _ ps _ (omega arith) (c .before .is-one-met .ensures _ (c .before .before .next-open .ensures .0) (c .before .before .next-open .ensures .2) kind _ K (policy-laid kind _ _ _ _ _ ps L _ l (c .before .before .before .before .wide .ensures))) (c .if2 .left))
 
 returns-3 : tie.Need-returns-3 Inv-loop μ-loop
 returns-3 c = λ kind ps K L. let n = L .size in sym (all-met _ ps _ (omega arith) (c .before .loop .inv .1 kind ps K L))
@@ -71,7 +74,8 @@ are-all-met-spec =
     element-copy-out-wide
     wide-requires
     returns
-    add-is-one-met
+    add-end
+    next-open-requires
     is-one-met-requires
     add-i
     loop-less

@@ -10,8 +10,8 @@ use Rattle.meaning.specs.Values.{Kind}
 use Rattle.rows.specs.Held.{Fields}
 use Rattle.rows.proofs.RowLaws.{ends-within}
 use Rattle.rows.proofs.EndLaws.{Goes, goes-done, goes-skips, goes-on, goes-lost}
-use Rattle.rows.proofs.contents_end.Statement.{statement}
-use Rattle.rows.proofs.contents_end.Tie as tie
+use Rattle.rows.proofs.inner.contents_end.Statement.{statement}
+use Rattle.rows.proofs.inner.contents_end.Tie as tie
 
 abbrev Inv-loop : tie.InvT-loop
 Inv-loop s from there n kinds p₀ c₀ p c =
