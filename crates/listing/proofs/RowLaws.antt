@@ -15,13 +15,11 @@ use Rattle.meaning.specs.declared.Listed.the-variants.{Rows}
 use Rattle.meaning.specs.Values.{Contents, with}
 use Rattle.meaning.specs.Atoms.{policyMet}
 use Rattle.meaning.specs.Sheets.{Sheet, tableAt, permissive, restrictive, admits}
-use Rattle.meaning.specs.Reading.{found, refused, Row, row, rows, readRows}
+use Rattle.meaning.specs.Reading.{Read, found, refused, Row, row, rows, readRows}
 use Rattle.meaning.specs.Replies.{asks, rowBytes, over}
 use Rattle.meaning.proofs.ReadLaws.{found-same}
-use Rattle.rows.specs.declared.Ended.{Ended}
-use Rattle.rows.specs.declared.Ended.the-variants.{At, Lost}
 use Rattle.rows.specs.Held.{RowHeld, RowRead}
-use Rattle.rows.proofs.ListLaws.{rowAt, Rowing, rowing-starts, rowing-ends, rowing-lost, rowing-stuck, rowing-on, list-short, row-found, row-refused}
+use Rattle.rows.proofs.ListLaws.{rowAt, Rowing, rowing-starts, rowing-ends, rowing-lost, rowing-stuck, rowing-on, list-short}
 use Rattle.admission.proofs.PlanLaws.{plan-admits}
 use Rattle.listing.specs.Ready.{admitted, Lists, Ready}
 use Rattle.lists.proofs.ListLaws.{each-append}
@@ -86,26 +84,27 @@ module _ (sheet : Sheet) (t command : ℕ) (key : Contents) (list before : List 
         let same : g .done ≡ rs = found-same (sym (rowing-ends sheet (tableAt sheet t) list p (g .done) (g .rowing) l) ∙ whole-list) in
         subst (λ d. Lists (asks (admitted sheet t command key d)) before (Rows at count) out) same ((λ i. Rows (g .size i) (g .number i)), g .holds)
 
-    module _ (columns : ℕ) (l : p / 8 < length list) (now after : Contents) (r : Ended) (read : RowRead columns now after (row sheet (tableAt sheet t) list p) r) where
+    module _ (columns : ℕ) (l : p / 8 < length list) (now after : Contents) (q : ℕ) (read : RowRead columns now after (row sheet (tableAt sheet t) list p) q) where
       -- a list that is of the form has no row that is not
-      pub never-lost : r ≡ Lost → ⊥
-      never-lost e =
-          let z = row-refused columns sheet (tableAt sheet t) list p now after r read e in
-          let w : found rs end ≡ refused (z .0) = sym whole-list ∙ rowing-lost sheet (tableAt sheet t) list p (g .done) (g .rowing) l (z .1) in
-          let no : _≡_ {A = ℕ} 0 1 = cc in omega arith
+      x : (x : Contents) × (row sheet (tableAt sheet t) list p ≡ found x q) × RowHeld columns q x now after
+      x = go (row sheet (tableAt sheet t) list p) refl
+        where
+          go : (m : Read Contents) → row sheet (tableAt sheet t) list p ≡ m → (x : Contents) × (row sheet (tableAt sheet t) list p ≡ found x q) × RowHeld columns q x now after
+          go (found y o) e =
+              let h = read y o e in
+              (y, e ∙ ap (found y) (sym (h .0)), subst (λ m. RowHeld columns m y now after) (sym (h .0)) (h .1))
+          go (refused k) e =
+              let w : found rs end ≡ refused k = sym whole-list ∙ rowing-lost sheet (tableAt sheet t) list p (g .done) (g .rowing) l e in
+              let no : _≡_ {A = ℕ} 0 1 = cc in absurd (omega arith)
 
-      pub never-stuck : {q : ℕ} → r ≡ At q → p ≤ q → q ≤ p → ⊥
-      never-stuck {q} e a b =
-          let x = row-found columns sheet (tableAt sheet t) list p now after r read e in
+      pub never-stuck : p ≤ q → q ≤ p → ⊥
+      never-stuck a b =
           let same : q ≡ p = omega arith in
           let i = rowing-stuck sheet (tableAt sheet t) list p (g .done) (g .rowing) l (x .1 ∙ ap (found (x .0)) same) in
           let w : found rs end ≡ refused (i .0) = sym whole-list ∙ i .1 in
           let no : _≡_ {A = ℕ} 0 1 = cc in omega arith
 
-      module _ {q : ℕ} (e : r ≡ At q) (far : p < q) (s words heads counts : List ℕ) (some all there : ℕ) (kinds : List ℕ) (small : columns ≤ 16) (ready : Ready s words heads counts some all there columns kinds sheet t command key now) where
-        x : (x : Contents) × (row sheet (tableAt sheet t) list p ≡ found x q) × RowHeld columns q x now after
-        x = row-found columns sheet (tableAt sheet t) list p now after r read e
-
+      module _ (far : p < q) (s words heads counts : List ℕ) (some all there : ℕ) (kinds : List ℕ) (small : columns ≤ 16) (ready : Ready s words heads counts some all there columns kinds sheet t command key now) where
         pub ready-next : Ready s words heads counts some all there columns kinds sheet t command key after
         ready-next = ready-on s words heads counts some all there columns kinds sheet t command key now small ready q (x .0) after (x .2)
 

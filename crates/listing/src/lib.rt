@@ -5,7 +5,6 @@
 use admission::is_admitted;
 use meaning::Listed;
 use plans::lay_policies;
-use rows::Ended;
 use rows::are_rows;
 use rows::row_at;
 use rows::session_at;
@@ -73,10 +72,7 @@ fn list(
     let mut at: usize = 0;
     let mut count: usize = 0;
     while p / 8 < rows.len() {
-        let end = row_at(rows, p, there, columns, kinds, present, values);
-        let Ended::At(q) = end else {
-            return Listed::Rows { length: at, count };
-        };
+        let q = row_at(rows, p, there, columns, kinds, present, values);
         if q <= p {
             return Listed::Rows { length: at, count };
         }

@@ -10,15 +10,16 @@ use lib.ListN.{length, getD, drop, set, length-append, drop-of-length-le, List·
 use lib.Seq.{drop-cons, getD-set-same, getD-set-other, getD-append-seam}
 use lib.Dec.{eqb}
 use borrow.Author.Tests.{lt-ltb, eq-eqb, ne-eqb}
+use Rattle.bits.specs.Bits.{number}
 use Rattle.meaning.specs.declared.Content.{Content}
 use Rattle.meaning.specs.declared.Content.the-variants.{Null, Value}
-use Rattle.meaning.specs.Values.{Kind, integer, kindNumber, Contents}
+use Rattle.meaning.specs.Values.{Kind, integer, kindNumber, last, raw, Contents}
 use Rattle.meaning.specs.Reading.{Read, found, refused, onRead, give, content, contents}
 use Rattle.rows.specs.declared.ContentRead.{ContentRead}
 use Rattle.rows.specs.declared.ContentRead.the-variants.{Found, Lost}
 use Rattle.rows.specs.declared.Ended.the-variants as ended
-use Rattle.rows.specs.Held.{contentFound, held, Cells, Fields, Filled, ContentsRead}
-use Rattle.rows.proofs.ContentLaws.{found-of, lost-of}
+use Rattle.rows.specs.Held.{contentFound, held, Cells, Fields, Filled, ContentsRead, ContentsHeld}
+use Rattle.rows.proofs.ContentLaws.{content-value, content-strange, found-of, lost-of}
 
 -- variable v holds x, and the others what they held
 pub record Sets (v : ℕ) (x : Content) (before after : Contents) : Type 0 where
@@ -141,11 +142,44 @@ module _ (there first n : ℕ) (kinds : List ℕ) (f : ℕ → Bool) (ks : List 
         let z = lost-of (content k s p) (read k (sym (h .kind c l))) y in
         going-lost f ks s from first c p before now g inside n after (ap (λ b. cond b (content k) (give Null) s p) (is-there e) ∙ z .1)
 
+  -- contents that are of the form hold values of their kinds only
+  module _ (e : there / 2 ^ (15 - c) % 2 ≡ 1) {b v y : ℕ} (in-list : p / 8 < length s) (bit : b ≡ number s p 1) (one : b ≡ 0 → ⊥) (room : (p + 72) / 8 ≤ length s) (read : y ≡ number s (p + 1) 64)
+      (code : (k : Kind) → kindNumber k ≡ getD kinds (first + c) 0 → v ≡ raw k y) {xs : List Content} {q : ℕ} (whole : contents f 0 ks s from ≡ found xs q) where
+    kind-here : Kind
+    kind-here = getD ks c integer
+
+    head-is : {r : Read Content} → content kind-here s p ≡ r → cond (f c) (content (getD ks c integer)) (give Null) s p ≡ r
+    unfolding kind-here
+    head-is i = ap (λ b. cond b (content (getD ks c integer)) (give Null) s p) (is-there e) ∙ i
+
+    here : v ≡ raw kind-here y
+    unfolding kind-here
+    here = code (getD ks c integer) (sym (h .kind c l))
+
+    pub going-value : {after : Contents} → Sets (first + c) (Value v) now after → Going f ks s from first (c + 1) (p + 65) before after
+    going-value {after} w = go (decLt (last kind-here) v)
+      where
+        go : Dec (last kind-here < v) → Going f ks s from first (c + 1) (p + 65) before after
+        go (no o) = going-on f ks s from first c p before now g inside (head-is (found-of (content kind-here s p) (content-value kind-here s p in-list bit one room read here refl (omega arith)) refl)) w
+        go (yes o) =
+            let lost = lost-of (content kind-here s p) (content-strange kind-here s p in-list bit one room read here refl o) refl in
+            let no-end = going-lost f ks s from first c p before now g inside n after (head-is (lost .1)) in
+            let z : ended.Lost ≡ ended.At q = subst (λ m. ContentsRead first n before after m ended.Lost) whole no-end .0 in
+            let x : _≡_ {A = ℕ} 0 1 = cc in absurd (omega arith)
+
 -- all of them are read
 pub going-done : (there first n : ℕ) (kinds : List ℕ) (f : ℕ → Bool) (ks : List Kind) → Fields there first n kinds f ks → (s : List ℕ) (from c p : ℕ) (before now : Contents)
     → Going f ks s from first c p before now → c ≡ n → ContentsRead first n before now (contents f 0 ks s from) (ended.At p)
 going-done there first n kinds f ks h s from c p before now g e =
     subst (λ m. ContentsRead first m before now (contents f 0 ks s from) (ended.At p)) e (going-ends f ks s from first c p before now g (h .count ∙ sym e))
+
+-- and hold, where they are of the form
+pub going-held : (there first n : ℕ) (kinds : List ℕ) (f : ℕ → Bool) (ks : List Kind) → Fields there first n kinds f ks → (s : List ℕ) (from c p : ℕ) (before now : Contents)
+    → ((xs : List Content) (q : ℕ) → contents f 0 ks s from ≡ found xs q → Going f ks s from first c p before now) → c ≡ n → ContentsHeld first n before now (contents f 0 ks s from) p
+going-held there first n kinds f ks h s from c p before now g e xs q is =
+    let d = going-done there first n kinds f ks h s from c p before now (g xs q is) e in
+    let both = subst (λ m. ContentsRead first n before now m (ended.At p)) is d in
+    let same : p ≡ q = cc in (same, both .1)
 
 -- what one variable holds
 module _ (present values : List ℕ) (v : ℕ) where

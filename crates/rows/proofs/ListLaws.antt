@@ -11,7 +11,7 @@ use Rattle.meaning.specs.Sheets.{Sheet, Table}
 use Rattle.meaning.specs.Reading.{Read, found, refused, onRead, nothingMore, Row, row, rows, readRows}
 use Rattle.rows.specs.declared.Ended.{Ended}
 use Rattle.rows.specs.declared.Ended.the-variants.{At, Lost}
-use Rattle.rows.specs.Held.{endOf, isFound, RowHeld, RowRead, RowEnds}
+use Rattle.rows.specs.Held.{endOf, isFound, RowEnds}
 use Rattle.rows.proofs.RowLaws.{at-of, not-of}
 
 -- the row between two bit numbers
@@ -92,20 +92,6 @@ module _ (sheet : Sheet) (t : Table) (s : List ℕ) where
   pub list-long : 65536 < length s → readRows sheet t s ≡ refused 15
   unfolding readRows
   list-long h = simp (lt-leb (length s) 65536 h)
-
--- what the code's answer on a row tells
-row-end : (n : ℕ) (before after : Contents) (r : Ended) (m : Read Contents) → RowRead n before after m r → r ≡ endOf m
-row-end n before after r (found x q) h = h .0
-row-end n before after r (refused k) h = h
-
-module _ (n : ℕ) (sheet : Sheet) (t : Table) (s : List ℕ) (p : ℕ) (before after : Contents) (r : Ended) (h : RowRead n before after (row sheet t s p) r) where
-  pub row-found : {q : ℕ} → r ≡ At q → (x : Contents) × (row sheet t s p ≡ found x q) × RowHeld n q x before after
-  row-found {q} e =
-      let z = at-of (row sheet t s p) (row-end n before after r (row sheet t s p) h) e in
-      (z .0, z .1, subst (λ m. RowRead n before after m r) (z .1) h .1)
-
-  pub row-refused : r ≡ Lost → (k : ℕ) × (row sheet t s p ≡ refused k)
-  row-refused e = not-of (row sheet t s p) (row-end n before after r (row sheet t s p) h) e
 
 -- what the code's answer on where a row ends tells
 ends-end : (r : Ended) (m : Read Contents) → RowEnds m r → r ≡ endOf m

@@ -16,7 +16,7 @@ use Rattle.meaning.specs.Sheets.{Sheet, Table, holds}
 use Rattle.meaning.specs.Reading.{Read, found, refused, onRead, contents, padding, nothingMore, row, readSession}
 use Rattle.rows.specs.declared.Ended.{Ended}
 use Rattle.rows.specs.declared.Ended.the-variants.{At, Lost}
-use Rattle.rows.specs.Held.{within, endOf, Filled, ContentsRead, RowHeld, RowRead, SessionHeld, SessionRead}
+use Rattle.rows.specs.Held.{within, endOf, Filled, ContentsRead, ContentsHeld, RowHeld, RowRead, SessionHeld, SessionRead}
 
 pub ends-within : {r : Ended} {q : ℕ} (p m top : ℕ) → r ≡ At q → within p m top r → (p ≤ q) × (q ≤ m) × (q ≤ top)
 ends-within p m top e h = subst (within p m top) e h
@@ -37,6 +37,20 @@ contents-end first n before after r (refused k) h = h
 contents-filled : (first n : ℕ) (before after : Contents) (r : Ended) {q : ℕ} {xs : List Content} (m : Read (List Content)) → m ≡ found xs q → ContentsRead first n before after m r → Filled first n xs before after
 contents-filled first n before after r m e h = subst (λ x. ContentsRead first n before after x r) e h .1
 
+-- contents that are read hold, where they are of the form
+module _ (first n : ℕ) (before after : Contents) (r : Ended) (m : Read (List Content)) (h : ContentsRead first n before after m r) where
+  pub contents-held : {p : ℕ} → r ≡ At p → ContentsHeld first n before after m p
+  contents-held {p} e xs q is =
+      let both = subst (λ x. ContentsRead first n before after x r) is h in
+      let ends : At p ≡ At q = sym e ∙ both .0 in
+      let same : p ≡ q = cc in (same, both .1)
+
+  pub contents-none : (p : ℕ) → r ≡ Lost → ContentsHeld first n before after m p
+  contents-none p e xs q is =
+      let both = subst (λ x. ContentsRead first n before after x r) is h in
+      let ends : Lost ≡ At q = sym e ∙ both .0 in
+      let z : _≡_ {A = ℕ} 0 1 = cc in absurd (omega arith)
+
 module _ (s : List ℕ) (p : ℕ) where
   abbrev w : ℕ
   w = (8 - p % 8) % 8
@@ -50,13 +64,16 @@ module _ (s : List ℕ) (p : ℕ) where
   unfolding padding
   padded-one bit z = simp (ne-eqb (number s p w) 0 (λ e. z (bit ∙ e)))
 
-  pub padding-ends : (u : Unit {0}) (q : ℕ) → padding s p ≡ found u q → q % 8 ≡ 0
+  pub padding-end : (u : Unit {0}) (q : ℕ) → padding s p ≡ found u q → (p + 7) / 8 * 8 ≡ q
   unfolding padding
-  padding-ends u q e = go (eqb (number s p w) 0) e
+  padding-end u q e = go (eqb (number s p w) 0) e
     where
-      go : (b : Bool) → cond b (found (tt {0}) (p + w)) (refused 10) ≡ found u q → q % 8 ≡ 0
+      go : (b : Bool) → cond b (found (tt {0}) (p + w)) (refused 10) ≡ found u q → (p + 7) / 8 * 8 ≡ q
       go true h = let same : p + w ≡ q = cc in omega arith
       go false h = let z : _≡_ {A = ℕ} 0 1 = cc in absurd (omega arith)
+
+  pub padding-ends : (u : Unit {0}) (q : ℕ) → padding s p ≡ found u q → q % 8 ≡ 0
+  padding-ends u q e = let same = padding-end u q e in omega arith
 
 row-held : (n q : ℕ) (xs : List Content) (before after : Contents) → q % 8 ≡ 0 → Filled 0 n xs before after → RowHeld n q (λ c. getD xs c Null) before after
 row-held n q xs before after w h =
@@ -67,27 +84,25 @@ row-held n q xs before after w h =
       others = λ v k. h .beyond v (omega arith);
     }
 
-module _ (n from : ℕ) (sheet : Sheet) (t : Table) (s : List ℕ) (before after : Contents) (r : Ended) (h : ContentsRead 0 n before after (contents (holds t) 0 (sheet .columns) s from) r) where
-  abbrev m : Read (List Content)
-  m = contents (holds t) 0 (sheet .columns) s from
+-- a row: its contents, and zero bits to the end of a byte
+pub row-read : (n from : ℕ) (sheet : Sheet) (t : Table) (s : List ℕ) (before after : Contents) (p : ℕ) → ContentsHeld 0 n before after (contents (holds t) 0 (sheet .columns) s from) p
+    → RowRead n before after (row sheet t s from) ((p + 7) / 8 * 8)
+unfolding row
+row-read n from sheet t s before after p h x q is = go (contents (holds t) 0 (sheet .columns) s from) refl is
+  where
+    padded : (xs : List Content) (o : ℕ) (y : Read (Unit {0})) → padding s o ≡ y → Filled 0 n xs before after → p ≡ o → onRead y (λ u e. found (λ c. getD xs c Null) e) ≡ found x q
+        → ((p + 7) / 8 * 8 ≡ q) × RowHeld n q x before after
+    padded xs o (found u e) j f same k =
+        let ends : e ≡ q = cc in
+        let cells : (λ c. getD xs c Null) ≡ x = cc in
+        let end = padding-end s o u e j in
+        (omega arith, subst (λ y. RowHeld n q y before after) cells (subst (λ m. RowHeld n m (λ c. getD xs c Null) before after) ends (row-held n e xs before after (padding-ends s o u e j) f)))
+    padded xs o (refused m) j f same k = let z : _≡_ {A = ℕ} 0 1 = cc in absurd (omega arith)
 
-  pub row-lost : r ≡ Lost → RowRead n before after (row sheet t s from) Lost
-  unfolding row
-  row-lost e =
-      let z = not-of m (contents-end 0 n before after r m h) e in
-      subst (λ x. RowRead n before after (onRead x (λ xs q. onRead (padding s q) (λ u o. found (λ c. getD xs c Null) o))) Lost) (sym (z .1)) refl
-
-  pub row-ends : {p : ℕ} {end : Ended} → r ≡ At p → end ≡ endOf (padding s p) → RowRead n before after (row sheet t s from) end
-  unfolding row
-  row-ends {p} {end} e g =
-      let z = at-of m (contents-end 0 n before after r m h) e in
-      let f = contents-filled 0 n before after r m (z .1) h in
-      subst (λ x. RowRead n before after (onRead x (λ xs q. onRead (padding s q) (λ u o. found (λ c. getD xs c Null) o))) end) (sym (z .1))
-      (go (padding s p) refl g (z .0) f)
-    where
-      go : (y : Read (Unit {0})) → padding s p ≡ y → end ≡ endOf y → (xs : List Content) → Filled 0 n xs before after → RowRead n before after (onRead y (λ u o. found (λ c. getD xs c Null) o)) end
-      go (found u q) i j xs f = (j, row-held n q xs before after (padding-ends s p u q i) f)
-      go (refused k) i j xs f = j
+    go : (m : Read (List Content)) → contents (holds t) 0 (sheet .columns) s from ≡ m → onRead m (λ xs o. onRead (padding s o) (λ u e. found (λ c. getD xs c Null) e)) ≡ found x q
+        → ((p + 7) / 8 * 8 ≡ q) × RowHeld n q x before after
+    go (found xs o) j k = let y = h xs o j in padded xs o (padding s o) refl (y .1) (y .0) k
+    go (refused m) j k = let z : _≡_ {A = ℕ} 0 1 = cc in absurd (omega arith)
 
 session-held : (n : ℕ) (xs : List Content) (before after : Contents) → n ≤ 8 → Filled 16 n xs before after → SessionHeld (λ k. getD xs k Null) before after
 session-held n xs before after l h = record { keys = λ v k null. go v k null (decLt (v - 16) n); columns = λ v k. h .below v k }

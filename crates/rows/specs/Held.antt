@@ -61,16 +61,19 @@ abbrev pub ContentsRead : ℕ → ℕ → Contents → Contents → Read (List C
 ContentsRead first n before after (found xs q) r = (r ≡ ended.At q) × Filled first n xs before after
 ContentsRead first n before after (refused k) r = r ≡ ended.Lost
 
--- what reading a row answers, and what the variables hold after it: the row's columns, the others as before
+-- where contents that are of the form end, and what the variables hold after them; nothing is said of others
+abbrev pub ContentsHeld : (first n : ℕ) → Contents → Contents → Read (List Content) → ℕ → Type 0
+ContentsHeld first n before after m r = (xs : List Content) (q : ℕ) → m ≡ found xs q → (r ≡ q) × Filled first n xs before after
+
+-- what the variables hold after a row: the row's columns, the others as before
 pub record RowHeld (n q : ℕ) (x before after : Contents) : Type 0 where
   pub whole : q % 8 ≡ 0
   pub columns : (c : ℕ) → c < n → after c ≡ x c
   pub none : (c : ℕ) → n ≤ c → x c ≡ Null
   pub others : (v : ℕ) → n ≤ v → after v ≡ before v
 
-abbrev pub RowRead : ℕ → Contents → Contents → Read Contents → Ended → Type 0
-RowRead n before after (found x q) r = (r ≡ ended.At q) × RowHeld n q x before after
-RowRead n before after (refused k) r = r ≡ ended.Lost
+abbrev pub RowRead : ℕ → Contents → Contents → Read Contents → ℕ → Type 0
+RowRead n before after m r = (x : Contents) (q : ℕ) → m ≡ found x q → (r ≡ q) × RowHeld n q x before after
 
 -- where a row ends: on a byte
 abbrev pub RowEnds : Read Contents → Ended → Type 0

@@ -1,9 +1,7 @@
 // Contents whose longest forms are wholly there: nothing is tested for the end.
-use crate::ContentRead;
 use crate::Ended;
 use crate::bit_at;
 use bits::within64;
-use meaning::Content;
 use values::last_of;
 use values::raw_of;
 ghost use mathlib.Core.Path.{_≡_};
@@ -13,7 +11,7 @@ ghost use mathlib.Core.List.{List};
 ghost use lib.ListN.{length};
 ghost use Rattle.meaning.specs.Values.{Kind, kindNumber};
 ghost use Rattle.meaning.specs.Reading.{content, contents};
-ghost use Rattle.rows.specs.Held.{contentFound, endedBy, within, endOf, held, Cells, Fields, ContentsRead};
+ghost use Rattle.rows.specs.Held.{within, endOf, held, Cells, Fields, ContentsHeld};
 
 // Are the longest contents of n columns there from bit number `from` on?
 pub fn has_room(s: &[u8], from: usize, n: usize) -> bool
@@ -26,22 +24,8 @@ pub fn has_room(s: &[u8], from: usize, n: usize) -> bool
     true
 }
 
-// A content of a kind at bit number p.
-fn content_within(s: &[u8], p: usize, kind: u8) -> ContentRead
-    requires { ⌜ (p ≤ 2 ^ 32) × (p + 65 ≤ length (now s) * 8) ⌝ }
-    ensures { λ r. ⌜ endedBy p (p + 65) (length (now (s .entry)) * 8) r × ((k : Kind) → kindNumber k ≡ kind → r ≡ contentFound (content k (now (s .entry)) p)) ⌝ }
-{
-    if bit_at(s, p) == 0 {
-        return ContentRead::Found(Content::Null, p + 1);
-    }
-    let v = raw_of(kind, within64(s, p + 1));
-    if v <= last_of(kind) {
-        return ContentRead::Found(Content::Value(v), p + 65);
-    }
-    ContentRead::Lost
-}
-
-// The contents of n variables from number `first` on, those that `there` names, at bit number `from`.
+// The contents of n variables from number `first` on, those that `there` names, at bit number `from`, which are of the form: the bit number
+// after them.
 pub fn contents_within(
     s: &[u8],
     from: usize,
@@ -51,37 +35,31 @@ pub fn contents_within(
     kinds: &[u8; 24],
     present: &mut [u8; 24],
     values: &mut [u64; 24],
-) -> Ended
+) -> usize
     requires { ⌜ (from ≤ 2 ^ 31) × (from + 65 * n ≤ length (now s) * 8) × (n ≤ 16) × (first + n ≤ 24) × Cells (now present) (now values) ⌝ }
-    ensures { λ r. ⌜ Cells (now (present .exit)) (now (values .exit)) × within from (from + 65 * n) (length (now (s .entry)) * 8) r × ((f : ℕ → Bool) (ks : List Kind) → Fields there first n (now (kinds .entry)) f ks → ContentsRead first n (held (now (present .entry)) (now (values .entry))) (held (now (present .exit)) (now (values .exit))) (contents f 0 ks (now (s .entry)) from) r) ⌝ }
+    ensures { λ r. ⌜ Cells (now (present .exit)) (now (values .exit)) × (from ≤ r) × (r ≤ from + 65 * n) × ((f : ℕ → Bool) (ks : List Kind) → Fields there first n (now (kinds .entry)) f ks → ContentsHeld first n (held (now (present .entry)) (now (values .entry))) (held (now (present .exit)) (now (values .exit))) (contents f 0 ks (now (s .entry)) from) r) ⌝ }
 {
     let mut p = from;
     let mut c: usize = 0;
     while c < n {
         let v = first + c;
         if (there >> (15 - c)) % 2 == 1 {
-            let got = content_within(s, p, kinds[v]);
-            let ContentRead::Found(x, next) = got else {
-                return Ended::Lost;
-            };
-            p = next;
-            c += 1;
-            match x {
-                Content::Null => {
-                    present[v] = 0;
-                    continue;
-                }
-                Content::Value(code) => {
-                    present[v] = 1;
-                    values[v] = code;
-                    continue;
-                }
+            if bit_at(s, p) == 0 {
+                present[v] = 0;
+                p += 1;
+                c += 1;
+                continue;
             }
+            present[v] = 1;
+            values[v] = raw_of(kinds[v], within64(s, p + 1));
+            p += 65;
+            c += 1;
+            continue;
         }
         present[v] = 0;
         c += 1;
     }
-    Ended::At(p)
+    p
 }
 
 // Where the content of a kind at bit number p ends. Every 64 bits are an integer, so its bits are not looked at.

@@ -18,7 +18,7 @@ ghost use Rattle.bits.specs.Bits.{number};
 ghost use Rattle.meaning.specs.Values.{Kind, kindNumber};
 ghost use Rattle.meaning.specs.Sheets.{Sheet, Table, holds};
 ghost use Rattle.meaning.specs.Reading.{content, contents, padding, row, readSession};
-ghost use Rattle.rows.specs.Held.{contentFound, endedBy, within, endOf, held, Cells, Fields, ContentsRead, RowRead, SessionRead};
+ghost use Rattle.rows.specs.Held.{contentFound, endedBy, within, endOf, held, Cells, Fields, ContentsRead, ContentsHeld, RowRead, SessionRead};
 
 pub mod inner;
 pub mod judging;
@@ -131,7 +131,7 @@ pub fn padded(s: &[u8], p: usize) -> Ended
     Ended::Lost
 }
 
-// The contents of the sheet's n columns, those that `there` names, at bit number `from`: the fast way where it goes.
+// The contents of the sheet's n columns, those that `there` names, at bit number `from`, which are of the form: the bit number after them.
 fn columns_at(
     s: &[u8],
     from: usize,
@@ -140,17 +140,21 @@ fn columns_at(
     kinds: &[u8; 24],
     present: &mut [u8; 24],
     values: &mut [u64; 24],
-) -> Ended
+) -> usize
     requires { ⌜ (from ≤ 2 ^ 31) × (from ≤ length (now s) * 8) × (n ≤ 16) × Cells (now present) (now values) ⌝ }
-    ensures { λ r. ⌜ Cells (now (present .exit)) (now (values .exit)) × within from (from + 65 * n) (length (now (s .entry)) * 8) r × ((f : ℕ → Bool) (ks : List Kind) → Fields there 0 n (now (kinds .entry)) f ks → ContentsRead 0 n (held (now (present .entry)) (now (values .entry))) (held (now (present .exit)) (now (values .exit))) (contents f 0 ks (now (s .entry)) from) r) ⌝ }
+    ensures { λ r. ⌜ Cells (now (present .exit)) (now (values .exit)) × (from ≤ r) × (r ≤ from + 65 * n) × (r ≤ length (now (s .entry)) * 8) × ((f : ℕ → Bool) (ks : List Kind) → Fields there 0 n (now (kinds .entry)) f ks → ContentsHeld 0 n (held (now (present .entry)) (now (values .entry))) (held (now (present .exit)) (now (values .exit))) (contents f 0 ks (now (s .entry)) from) r) ⌝ }
 {
     if has_room(s, from, n) {
         return contents_within(s, from, there, 0, n, kinds, present, values);
     }
-    contents_at(s, from, there, 0, n, kinds, present, values)
+    let end = contents_at(s, from, there, 0, n, kinds, present, values);
+    let Ended::At(p) = end else {
+        return from;
+    };
+    p
 }
 
-// The row at bit number `from` of a table that holds the columns `there` of the sheet's n.
+// The row at bit number `from` of a table that holds the columns `there` of the sheet's n, in a list that is judged: the bit number after it.
 pub fn row_at(
     s: &[u8],
     from: usize,
@@ -159,15 +163,12 @@ pub fn row_at(
     kinds: &[u8; 24],
     present: &mut [u8; 24],
     values: &mut [u64; 24],
-) -> Ended
+) -> usize
     requires { ⌜ (from ≤ 2 ^ 31) × (from ≤ length (now s) * 8) × (n ≤ 16) × Cells (now present) (now values) ⌝ }
-    ensures { λ r. ⌜ Cells (now (present .exit)) (now (values .exit)) × within from (from + 65 * n + 7) (length (now (s .entry)) * 8) r × ((sheet : Sheet) (t : Table) → Fields there 0 n (now (kinds .entry)) (holds t) (sheet .columns) → RowRead n (held (now (present .entry)) (now (values .entry))) (held (now (present .exit)) (now (values .exit))) (row sheet t (now (s .entry)) from) r) ⌝ }
+    ensures { λ r. ⌜ Cells (now (present .exit)) (now (values .exit)) × (from ≤ r) × (r ≤ from + 65 * n + 7) × (r ≤ length (now (s .entry)) * 8) × ((sheet : Sheet) (t : Table) → Fields there 0 n (now (kinds .entry)) (holds t) (sheet .columns) → RowRead n (held (now (present .entry)) (now (values .entry))) (held (now (present .exit)) (now (values .exit))) (row sheet t (now (s .entry)) from) r) ⌝ }
 {
-    let end = columns_at(s, from, there, n, kinds, present, values);
-    let Ended::At(p) = end else {
-        return Ended::Lost;
-    };
-    padded(s, p)
+    let p = columns_at(s, from, there, n, kinds, present, values);
+    (p + 7) / 8 * 8
 }
 
 // A whole session of n keys: is it of the form?
