@@ -121,6 +121,40 @@ fn every_cut_and_every_bit() {
     println!("compared cuts and turned bits: {compared}");
 }
 
+/// Some row lists that are listed, each cut at every byte and with every bit turned: the end of a list
+/// is read in another way than its rows before.
+#[test]
+fn every_cut_and_every_bit_of_rows() {
+    if !exports("listing") {
+        return;
+    }
+    let mut random = Random::new(3);
+    let library = Library::default();
+    let (mut lists, mut compared, mut listed) = (0, 0, 0);
+    while lists < 12 {
+        let whole = question(&mut random, "listing");
+        let Question::Listing { rows, .. } = &whole else { unreachable!("a listing was asked for") };
+        let reply = Reading.answer(&whole);
+        if !(160..480).contains(&rows.len()) || reply.refusal() != 0 || reply.numbers[2] == 0 {
+            continue;
+        }
+        lists += 1;
+        for damaged in cuts_and_turns(rows) {
+            let mut question = whole.clone();
+            if let Question::Listing { rows, .. } = &mut question {
+                *rows = damaged;
+            }
+            if let Some(difference) = differ(&Reading, &library, &question) {
+                panic!("{difference}");
+            }
+            compared += 1;
+            listed += usize::from(Reading.answer(&question).refusal() == 0);
+        }
+    }
+    assert!(listed > 1000 && compared - listed > 1000, "{listed} of {compared} lists are of the form");
+    println!("compared cuts and turned bits of rows: {compared}, {listed} of them of the form");
+}
+
 fn cuts_and_turns(bytes: &[u8]) -> Vec<Vec<u8>> {
     let cuts = (0..bytes.len()).map(|length| bytes[..length].to_vec());
     let turn = |bit: usize| {
