@@ -1,8 +1,8 @@
 // A session and the rows of a list, read. Bytes come in with the kinds of the variables; out go the contents, null or a value, in two arrays by
 // variable number (columns from 0, keys from 16), with the bit number after them, or that the bytes are not of the form (refusal 15). Makes
 // true: "A session is, for each key ascending, one presence bit (0 is null) and, if that is 1, a value of its kind; zero bits fill the last
-// byte. A row is the same over the columns that its table holds". Stands on bits, meaning and values; specs/Held.antt says what an answer
-// stands for.
+// byte. A row is the same over the columns that its table holds". A list is judged whole (`judging`) before its rows are read; `inner` has both
+// for rows with room behind them. Stands on bits, meaning and values; specs/Held.antt says what an answer stands for.
 use bits::within64;
 use inner::contents_within;
 use inner::has_room;
