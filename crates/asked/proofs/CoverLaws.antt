@@ -21,7 +21,8 @@ use Rattle.meaning.specs.Views.{atomOf, clauseOf}
 use Rattle.asked.specs.Words.{upTo8}
 use Rattle.asked.specs.Asked.{Ranges, There, Uses, everyColumn, Tells}
 use Rattle.asked.proofs.Laying.{map-append, take-8, upTo8-le}
-use Rattle.asked.proofs.Sense.{and-both, and-true, append-every}
+use Rattle.lists.proofs.BoolLaws.{both, join}
+use Rattle.asked.proofs.Sense.{append-every}
 use Rattle.asked.proofs.Ways.{Covered, answer-yes, answer-no}
 
 -- covers, atom by atom
@@ -67,7 +68,7 @@ all-at Q f (x ∷ xs) (suc n) (suc i) d l k h = all-at Q f xs n i d (omega arith
 
 pub all-met : (e : Contents) (c : m.Clause) → clauseMet e c ≡ true → All (λ a. met e a ≡ true) c
 all-met e [] h = tt
-all-met e (a ∷ c) h = let g = and-both (met e a) (clauseMet e c) h in (g .0, all-met e c (g .1))
+all-met e (a ∷ c) h = let g = both (met e a) (clauseMet e c) h in (g .0, all-met e c (g .1))
 
 pub implied-not : (top : List ℕ) (p : Clause) (q : m.Clause) (i n : ℕ) (d : Atom) (r : Bool) → length (p .atoms) ≡ 8 → i < n → n ≡ upTo8 (p .count) → r ≡ false → Covered top q (atomOf (getD (p .atoms) i d)) r → Tells top (clauseOf p ++ q) (λ sheet. ClauseCovers sheet (clauseOf p) q) false
 implied-not top p q i n d r len l f e h sheet k u =
@@ -78,4 +79,4 @@ implied-not top p q i n d r len l f e h sheet k u =
     answer-no
     (λ c.
     h sheet k (w, us .1) .no e
-    (λ row session a b x. and-true (met (with row session) (atomOf (getD (p .atoms) i d))) true (all-at (λ a. met (with row session) a ≡ true) atomOf (p .atoms) n i d l (omega arith) (all-met (with row session) (map atomOf (take n (p .atoms))) (subst (λ ys. clauseMet (with row session) (map atomOf ys) ≡ true) (sym z) (c row session a b x)))) refl))
+    (λ row session a b x. join (met (with row session) (atomOf (getD (p .atoms) i d))) true (all-at (λ a. met (with row session) a ≡ true) atomOf (p .atoms) n i d l (omega arith) (all-met (with row session) (map atomOf (take n (p .atoms))) (subst (λ ys. clauseMet (with row session) (map atomOf ys) ≡ true) (sym z) (c row session a b x)))) refl))

@@ -19,8 +19,9 @@ use Rattle.meaning.specs.declared.Atom.{Atom}
 use Rattle.meaning.specs.declared.Clause.{Clause}
 use Rattle.meaning.specs.Views.{testOf, operatorOf, atomOf}
 use Rattle.asked.specs.Asked.{Unlike, Differs, turnedOrder, turnedBy, turned}
+use Rattle.lists.proofs.BoolLaws.{both, join}
 use Rattle.words.proofs.NeedLaws.{clash}
-use Rattle.asked.proofs.Sense.{and-both, and-true, every-append, append-every}
+use Rattle.asked.proofs.Sense.{every-parts, append-every}
 
 -- how an atom fails
 
@@ -134,13 +135,13 @@ module _ (sheet : Sheet) (others : m.Clause) (a : m.Atom) where
   pub way-taken : (f : m.Atom) → ((e : Contents) → met e f ≡ true → met e a ≡ true → ⊥) → LiveClause sheet (others ++ (f ∷ [])) → ClauseCovers sheet (a ∷ []) others → ⊥
   way-taken f h l c =
       let e = with (l .row) (l .session) in
-      let x = every-append (met e) others (f ∷ []) (l .meets) in
-      h e (and-both (met e f) true (x .1) .0) (and-both (met e a) true (c (l .row) (l .session) (l .is-row) (l .is-session) (x .0)) .0)
+      let x = every-parts (met e) others (f ∷ []) (l .meets) in
+      h e (both (met e f) true (x .1) .0) (both (met e a) true (c (l .row) (l .session) (l .is-row) (l .is-session) (x .0)) .0)
 
   pub way-apart : (u : ℕ) → a .operator ≡ equals u → Differs sheet others (a .variable) u → ClauseCovers sheet (a ∷ []) others → ⊥
   way-apart u o l c =
       let e = with (l .row) (l .session) in
-      let q = and-both (met e a) true (c (l .row) (l .session) (l .is-row) (l .is-session) (l .meets)) .0 in
+      let q = both (met e a) true (c (l .row) (l .session) (l .is-row) (l .is-session) (l .meets)) .0 in
       equal-fails e u (e (a .variable)) (e u) refl (l .unlike) (sym (ap (λ (p : Operator). passes e p (e (a .variable))) o) ∙ q)
 
   -- a way that none takes
@@ -151,26 +152,26 @@ module _ (sheet : Sheet) (others : m.Clause) (a : m.Atom) where
       go true q =
           absurd
           (h
-          record { row = row; session = session; is-row = r; is-session = s; meets = append-every (met (with row session)) others (f ∷ []) c (and-true (met (with row session) f) true q refl) })
+          record { row = row; session = session; is-row = r; is-session = s; meets = append-every (met (with row session)) others (f ∷ []) c (join (met (with row session) f) true q refl) })
       go false q = q
 
   pub covers-plain : Plain (a .operator) → (LiveClause sheet (others ++ (on (a .variable) is-null ∷ [])) → ⊥) → (LiveClause sheet (others ++ (turned a ∷ [])) → ⊥) → ClauseCovers sheet (a ∷ []) others
   covers-plain p n t row session r s c =
       let e = with row session in
-      and-true (met e a) true (plain-passes e (a .operator) (e (a .variable)) p (not-taken (on (a .variable) is-null) n row session r s c) (not-taken (turned a) t row session r s c)) refl
+      join (met e a) true (plain-passes e (a .operator) (e (a .variable)) p (not-taken (on (a .variable) is-null) n row session r s c) (not-taken (turned a) t row session r s c)) refl
 
   pub covers-null : a .operator ≡ is-null → (LiveClause sheet (others ++ (turned a ∷ [])) → ⊥) → ClauseCovers sheet (a ∷ []) others
   covers-null o t row session r s c =
       let e = with row session in
       let q = not-taken (turned a) t row session r s c in
-      and-true (met e a) true
+      join (met e a) true
       (ap (λ (p : Operator). passes e p (e (a .variable))) o ∙ null-passes e (e (a .variable)) (sym (ap (λ (p : Operator). passes e (turnedBy p) (e (a .variable))) o) ∙ q))
       refl
 
   pub covers-equals : (u : ℕ) → a .operator ≡ equals u → (LiveClause sheet (others ++ (on (a .variable) is-null ∷ [])) → ⊥) → (LiveClause sheet (others ++ (on u is-null ∷ [])) → ⊥) → (Differs sheet others (a .variable) u → ⊥) → ClauseCovers sheet (a ∷ []) others
   covers-equals u o n k d row session r s c =
       let e = with row session in
-      and-true (met e a) true
+      join (met e a) true
       (ap (λ (p : Operator). passes e p (e (a .variable))) o
       ∙ equal-passes e u (e (a .variable)) (e u) refl (not-taken (on (a .variable) is-null) n row session r s c) (not-taken (on u is-null) k row session r s c)
       (λ x. d record { row = row; session = session; is-row = r; is-session = s; meets = c; unlike = x }))

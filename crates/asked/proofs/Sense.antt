@@ -3,7 +3,7 @@ use Prim.Native.Nat.{ℕ, zero, suc, _+_, _*_, _%_, _≤_, _<_}
 use native.Mathlib.Omega.{arith}
 use native.Mathlib.Nat.{not-suc-le-zero}
 use mathlib.Core.Path.{_≡_, refl, sym, _∙_, ap, subst}
-use mathlib.Core.Bool.{Bool, true, false, cond, not, _&&_, _||_}
+use mathlib.Core.Bool.{Bool, true, false, cond, not, _||_}
 use mathlib.Core.List.{List, [], _∷_, _++_}
 use lib.ListN.{getD}
 use lib.Dec.{eqb}
@@ -14,6 +14,7 @@ use Rattle.words.specs.Meaning.{Test.oneOf, Test.noneOf, Test.atMost, Test.atLe
 use Rattle.meaning.specs.declared.Content.{Content}
 use Rattle.meaning.specs.declared.Content.the-variants.{Null, Value}
 use Rattle.lists.specs.Lists.{every}
+use Rattle.lists.proofs.BoolLaws.{both, join, every-append}
 use Rattle.meaning.specs.Values.{Contents}
 use Rattle.meaning.specs.Atoms.{at-most, at-least, is-below, is-above, Operator, equals, in-list, not-in-list, order, is-null, is-not-null, Atom, among, isValue, passes, met, clauseMet}
 use Rattle.meaning.specs.Steps.{on}
@@ -23,14 +24,6 @@ use Rattle.words.proofs.NeedLaws.{clash}
 -- each follows from the other
 abbrev pub Same : Type 0 → Type 0 → Type 0
 Same P Q = (P → Q) × (Q → P)
-
-pub and-both : (a b : Bool) → (a && b) ≡ true → (a ≡ true) × (b ≡ true)
-and-both true b e = (refl, e)
-and-both false b e = absurd (clash e refl)
-
-pub and-true : (a b : Bool) → a ≡ true → b ≡ true → (a && b) ≡ true
-and-true true b p q = q
-and-true false b p q = p
 
 -- what the engine says that a variable holds, and back
 abbrev pub told : e.Content → Content
@@ -163,29 +156,23 @@ met-same s i d =
 
 -- clauses
 
-pub every-append : {A : Type 0} (f : A → Bool) (xs ys : List A) → every f (xs ++ ys) ≡ true → (every f xs ≡ true) × (every f ys ≡ true)
-every-append f [] ys e = (refl, e)
-every-append f (x ∷ xs) ys e =
-    let a = and-both (f x) (every f (xs ++ ys)) e in
-    let b = every-append f xs ys (a .1) in
-    (and-true (f x) (every f xs) (a .0) (b .0), b .1)
+-- two clauses are met together when each is
+pub every-parts : {A : Type 0} (f : A → Bool) (xs ys : List A) → every f (xs ++ ys) ≡ true → (every f xs ≡ true) × (every f ys ≡ true)
+every-parts f xs ys e = both (every f xs) (every f ys) (sym (every-append f xs ys) ∙ e)
 
 pub append-every : {A : Type 0} (f : A → Bool) (xs ys : List A) → every f xs ≡ true → every f ys ≡ true → every f (xs ++ ys) ≡ true
-append-every f [] ys p q = q
-append-every f (x ∷ xs) ys p q =
-    let a = and-both (f x) (every f xs) p in
-    and-true (f x) (every f (xs ++ ys)) (a .0) (append-every f xs ys (a .1) q)
+append-every f xs ys p q = every-append f xs ys ∙ join (every f xs) (every f ys) p q
 
 words-met : (s : List ℕ) (n : ℕ) (m : Contents) → ((i : ℕ) → i < n → met m (wordAtom s i) ≡ true) → clauseMet m (wordAtoms s n) ≡ true
 words-met s zero m h = refl
 words-met s (suc n) m h =
-    append-every (met m) (wordAtoms s n) (wordAtom s n ∷ []) (words-met s n m (λ i l. h i (omega arith))) (and-true (met m (wordAtom s n)) true (h n (omega arith)) refl)
+    append-every (met m) (wordAtoms s n) (wordAtom s n ∷ []) (words-met s n m (λ i l. h i (omega arith))) (join (met m (wordAtom s n)) true (h n (omega arith)) refl)
 
 met-words : (s : List ℕ) (n : ℕ) (m : Contents) → clauseMet m (wordAtoms s n) ≡ true → (i : ℕ) → i < n → met m (wordAtom s i) ≡ true
 met-words s zero m h i l = absurd (not-suc-le-zero l)
 met-words s (suc n) m h i l =
-    let a = every-append (met m) (wordAtoms s n) (wordAtom s n ∷ []) h in
-    below-more (λ k. met m (wordAtom s k) ≡ true) n (met-words s n m (a .0)) (and-both (met m (wordAtom s n)) true (a .1) .0) i (omega arith)
+    let a = every-parts (met m) (wordAtoms s n) (wordAtom s n ∷ []) h in
+    below-more (λ k. met m (wordAtom s k) ≡ true) n (met-words s n m (a .0)) (both (met m (wordAtom s n)) true (a .1) .0) i (omega arith)
 
 -- the conjunction is met, and within the ranges
 pub sat-met : (s top : List ℕ) (d : ℕ → e.Content) → Sat s top d → clauseMet (λ v. told (d v)) (wordAtoms s (atoms s)) ≡ true

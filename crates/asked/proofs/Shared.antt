@@ -13,6 +13,8 @@ use Rattle.reach.specs.Solution.{Answers, Apart, Parts}
 use Rattle.meaning.specs.declared.Content.{Content}
 use Rattle.meaning.specs.declared.Content.the-variants.{Null, Value}
 use Rattle.lists.specs.Lists.{All}
+use Rattle.lists.proofs.BoolLaws.{join}
+use Rattle.lists.proofs.OrderLaws.{all-map}
 use Rattle.meaning.specs.Values.{Kind, integer, last, Fits, Contents, with}
 use Rattle.meaning.specs.Atoms.{Operator, equals, in-list, not-in-list, order, is-null, is-not-null, Clause, isValue, passes, met, clauseMet}
 use Rattle.meaning.specs.Sheets as sheets
@@ -23,7 +25,7 @@ use Rattle.lists.specs.Decides.{Decides}
 use Rattle.asked.specs.Asked.{Ranges, There, Uses, Unlike, three, Both}
 use Rattle.words.proofs.NeedLaws.{clash}
 use Rattle.asked.proofs.Laying.{both, slot-key, slot-column}
-use Rattle.asked.proofs.Sense.{told, said, told-said, said-told, and-true, every-append, append-every, sat-met, met-sat}
+use Rattle.asked.proofs.Sense.{told, said, told-said, said-told, every-parts, append-every, sat-met, met-sat}
 
 -- an atom on other numbers
 
@@ -41,17 +43,13 @@ passes-seen m n second is-null (Value k) h = refl
 passes-seen m n second is-not-null Null h = refl
 passes-seen m n second is-not-null (Value k) h = refl
 
-all-map : {A : Type 0} {P Q : A → Type 0} → ((x : A) → P x → Q x) → (xs : List A) → All P xs → All Q xs
-all-map f [] h = tt
-all-map f (x ∷ xs) h = (f x (h .0), all-map f xs (h .1))
-
 clause-seen : (m n : Contents) (second : Bool) (c : Clause) → All (λ a. All (λ u. m (slotOf second u) ≡ n u) (a .variable ∷ sheets.second (a .operator))) c → clauseMet m (map (seen second) c) ≡ clauseMet n c
 clause-seen m n second [] h = refl
 clause-seen m n second (a ∷ c) h =
     both _&&_ (passes-seen m n second (a .operator) (m (slotOf second (a .variable))) (h .0 .1) ∙ ap (passes n (a .operator)) (h .0 .0)) (clause-seen m n second c (h .1))
 
 pub used-seen : (held : ℕ → Bool) (sheet : Sheet) (second : Bool) (m n : Contents) → ((v : ℕ) → There held sheet v → m (slotOf second v) ≡ n v) → (c : Clause) → Uses held sheet c → clauseMet m (map (seen second) c) ≡ clauseMet n c
-used-seen held sheet second m n h c u = clause-seen m n second c (all-map (λ x. all-map h (x .variable ∷ sheets.second (x .operator))) c u)
+used-seen held sheet second m n h c u = clause-seen m n second c (all-map _ _ c (λ x. all-map _ _ (x .variable ∷ sheets.second (x .operator)) h) u)
 
 -- the engine's numbers
 
@@ -122,14 +120,14 @@ module _ (held : ℕ → Bool) (sheet : Sheet) where
         (λ l t.
         with-column rowOf (sessionOf second (keysFrom 16) (keysFrom 24)) v l
         ∙ ap (λ (b : Bool). cond b (told (d v)) Null)
-        (and-true (held v) (ltb v 16) (sym (ap (λ (b : Bool). cond b (held v) (ltb (v - 16) (length (sheet .keys)))) (lt-ltb v 16 l)) ∙ t .has) (lt-ltb v 16 l))
+        (join (held v) (ltb v 16) (sym (ap (λ (b : Bool). cond b (held v) (ltb (v - 16) (length (sheet .keys)))) (lt-ltb v 16 l)) ∙ t .has) (lt-ltb v 16 l))
         ∙ ap (λ (k : ℕ). told (d k)) (sym (slot-row second v l)))
         (λ l t. with-key rowOf (sessionOf second (keysFrom 16) (keysFrom 24)) v l ∙ key second l t) h
       where
         given : 16 ≤ v → There held sheet v → (ltb (v - 16) (length (sheet .keys)) && ltb (v - 16) 8) ≡ true
         given l t =
             let n = t .number in
-            and-true (ltb (v - 16) (length (sheet .keys))) (ltb (v - 16) 8)
+            join (ltb (v - 16) (length (sheet .keys))) (ltb (v - 16) 8)
             (sym (ap (λ (b : Bool). cond b (held v) (ltb (v - 16) (length (sheet .keys)))) (le-ltb v 16 l)) ∙ t .has) (lt-ltb (v - 16) 8 (omega arith))
 
         key : (second : Bool) → 16 ≤ v → There held sheet v → sessionOf second (keysFrom 16) (keysFrom 24) (v - 16) ≡ told (d (slotOf second v))
@@ -209,7 +207,7 @@ module _ (held : ℕ → Bool) (sheet : Sheet) where
 
     pub sat-both : (P : Contents → Type 0) (d : ℕ → e.Content) → Sat s top d → P (three (rowOf d) (keysFrom d 16) (keysFrom d 24)) → Both held sheet a b P
     sat-both P d h p =
-        let g = every-append (met (λ v. told (d v))) (map (seen false) a) (map (seen true) b) (sym (w (λ v. told (d v))) ∙ sat-met s top d h) in
+        let g = every-parts (met (λ v. told (d v))) (map (seen false) a) (map (seen true) b) (sym (w (λ v. told (d v))) ∙ sat-met s top d h) in
         record {
           row = rowOf d;
           one = keysFrom d 16;
