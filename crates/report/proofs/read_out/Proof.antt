@@ -1,5 +1,5 @@
 -- A refused sheet's line, or the opening and the lines.
-use Rattle.script.proofs.Counting.{counts}
+use Rattle.report.proofs.CountLaws.{counts}
 use Rattle.report.proofs.LineLaws.{out-refused, out-told}
 use Rattle.sheet.proofs.UserLaws.{read-found, read-refused}
 use borrow.Author.Needs.{needs}
