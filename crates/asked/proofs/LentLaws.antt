@@ -16,7 +16,7 @@ use Rattle.meaning.specs.Questions.{LiveClause}
 use Rattle.meaning.specs.declared.Atom.{Atom}
 use Rattle.meaning.specs.declared.Clause.{Clause}
 use Rattle.asked.specs.Words.{wordAtoms, slotOf, seen}
-use Rattle.asked.specs.Asked.{everyColumn, Tells, three, Differs}
+use Rattle.asked.specs.Asked.{everyColumn, Tells, TellsMeets, three, Differs}
 use Rattle.asked.proofs.Laying.{words-same, map-append, nil-append}
 use Rattle.asked.proofs.Shared.{answered, told-apart, three-with, slot-one}
 
@@ -27,17 +27,26 @@ words-cut words k n e l =
     let a : length (take k words) ≡ k = length-take-le k words l in
     ap (wordAtoms (take k words)) (let q : length (take k words) / 11 ≡ n = omega arith in q) ∙ words-same n (take k words) words (λ i d. getD-take k words i 0 (omega arith))
 
-pub one-clause : (s : List ℕ) (c : m.Clause) → wordAtoms s (atoms s) ≡ map (seen false) c → (e : Contents) → clauseMet e (wordAtoms s (atoms s)) ≡ clauseMet e (map (seen false) c ++ map (seen true) [])
+one-clause : (s : List ℕ) (c : m.Clause) → wordAtoms s (atoms s) ≡ map (seen false) c → (e : Contents) → clauseMet e (wordAtoms s (atoms s)) ≡ clauseMet e (map (seen false) c ++ map (seen true) [])
 one-clause s c w e = ap (clauseMet e) (w ∙ sym (nil-append (map (seen false) c)))
 
-pub live-told : (words top : List ℕ) (k n : ℕ) (c : m.Clause) (r : Bool) → k ≡ n * 11 → k ≤ length words → wordAtoms words n ≡ map (seen false) c → search.Answers (take k words) top r → Tells top c (λ sheet. LiveClause sheet c) r
-live-told words top k n c r e l w h sheet ranges u =
-    let d = answered (everyColumn sheet) sheet (take k words) top c [] (one-clause (take k words) c (words-cut words k n e l ∙ w)) ranges u tt r h in
+pub meets-told : (s top : List ℕ) (n k : ℕ) (r : Bool) → k ≡ n * 11 → k ≤ length s → search.Answers (take k s) top r → TellsMeets s n top r
+meets-told s top n k r ek l h held sheet a w g u =
+    let d = answered held sheet (take k s) top a [] (one-clause (take k s) a (words-cut s k n ek l ∙ w)) g u tt r h in
     record {
       yes = λ q. let b = d .yes q in record { row = b .row; session = b .one; is-row = b .is-row; is-session = b .is-one; meets = b .meets-a };
       no = λ q x.
           d .no q
           record { row = x .row; one = x .session; two = x .session; is-row = x .is-row; is-one = x .is-session; is-two = x .is-session; meets-a = x .meets; meets-b = refl; also = tt };
+    }
+
+-- the same of rows with any columns
+pub live-told : (words top : List ℕ) (k n : ℕ) (c : m.Clause) (r : Bool) → k ≡ n * 11 → k ≤ length words → wordAtoms words n ≡ map (seen false) c → search.Answers (take k words) top r → Tells top c (λ sheet. LiveClause sheet c) r
+live-told words top k n c r e l w h sheet ranges u =
+    let d = meets-told words top n k r e l h (everyColumn sheet) sheet c w ranges u in
+    record {
+      yes = λ q. let b = d .yes q in record { row = b .row; session = b .session; is-row = b .is-row; is-session = b .is-session; meets = b .meets };
+      no = λ q x. d .no q record { row = x .row; session = x .session; is-row = x .is-row; is-session = x .is-session; meets = x .meets };
     }
 
 pub differs-told : (words top : List ℕ) (k n u w : ℕ) (c : m.Clause) (r : Bool) → k ≡ n * 11 → k ≤ length words → wordAtoms words n ≡ map (seen false) c → search.Apart (take k words) top (u % 32) (w % 32) r →

@@ -1,7 +1,7 @@
 -- The words of the n atoms are lent, and the answer is told of the clauses that they lay.
 use mathlib.Core.Path.{refl, sym}
 use lib.Seq.{length-take-le}
-use Rattle.asked.proofs.Tenants.{meets-told}
+use Rattle.asked.proofs.LentLaws.{meets-told}
 use borrow.Author.Needs.{needs}
 use Rattle.asked.proofs.meets.Statement.{statement}
 use Rattle.asked.proofs.meets.Tie as tie
