@@ -4,7 +4,7 @@ use native.Mathlib.Omega.{arith}
 use native.Mathlib.Nat.{not-suc-le-zero}
 use mathlib.Core.Path.{_≡_, refl, sym, _∙_, ap, subst}
 use mathlib.Core.Bool.{Bool, true, false}
-use mathlib.Core.List.{List, [], _∷_, _++_, map}
+use mathlib.Core.List.{List, [], _∷_, _++_, map, map-append}
 use lib.ListN.{length, getD, take}
 use lib.Seq.{take-suc}
 use Rattle.words.specs.Meaning.{atoms}
@@ -20,7 +20,7 @@ use Rattle.meaning.specs.declared.Clause.{Clause}
 use Rattle.meaning.specs.Views.{atomOf, clauseOf}
 use Rattle.asked.specs.Words.{upTo8}
 use Rattle.asked.specs.Asked.{Ranges, There, Uses, everyColumn, Tells}
-use Rattle.asked.proofs.Laying.{map-append, take-8, upTo8-le}
+use Rattle.asked.proofs.Laying.{take-8, upTo8-le}
 use Rattle.lists.proofs.BoolLaws.{both, join}
 use Rattle.asked.proofs.Sense.{append-every}
 use Rattle.asked.proofs.Ways.{Covered, answer-yes, answer-no}

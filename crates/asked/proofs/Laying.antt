@@ -3,7 +3,7 @@ use Prim.Native.Nat.{ℕ, zero, suc, _+_, _*_, _%_, _≤_, _<_}
 use native.Mathlib.Omega.{arith}
 use mathlib.Core.Path.{_≡_, refl, sym, _∙_, ap}
 use mathlib.Core.Bool.{Bool, true, false, cond, _&&_}
-use mathlib.Core.List.{List, [], _∷_, _++_, map, append-assoc}
+use mathlib.Core.List.{List, [], _∷_, _++_, map, append-assoc, append-nil, map-append}
 use lib.ListN.{length, getD, set, length-set, length-map, take}
 use lib.Seq.{take-all, take-suc, getD-set-same, getD-set-other}
 use borrow.Author.Count.{below-more}
@@ -184,16 +184,8 @@ unmapped f l h = sym (length-map l f) ∙ h
 abbrev pub no-atom : Atom
 no-atom = record { variable = 0; operator = 0; other = 0; count = 0; values = [] }
 
-pub map-append : {A B : Type 0} (f : A → B) (xs ys : List A) → map f (xs ++ ys) ≡ map f xs ++ map f ys
-map-append f [] ys = refl
-map-append f (x ∷ xs) ys = ap (λ ws. f x ∷ ws) (map-append f xs ys)
-
-pub nil-append : {A : Type 0} (xs : List A) → xs ++ [] ≡ xs
-nil-append [] = refl
-nil-append (x ∷ xs) = ap (λ ws. x ∷ ws) (nil-append xs)
-
 pub lays-none : (s : List ℕ) (n : ℕ) (second : Bool) (xs : List Atom) → wordAtoms s (n + 0) ≡ wordAtoms s n ++ map (seen second) (map atomOf (take 0 xs))
-lays-none s n second xs = ap (wordAtoms s) (let e : n + 0 ≡ n = omega arith in e) ∙ sym (nil-append (wordAtoms s n))
+lays-none s n second xs = ap (wordAtoms s) (let e : n + 0 ≡ n = omega arith in e) ∙ sym (append-nil (wordAtoms s n))
 
 pub lays-more : (old s t : List ℕ) (n i : ℕ) (second : Bool) (xs : List Atom) (d : Atom) → i < length xs → wordAtoms t (n + i + 1) ≡ wordAtoms s (n + i) ++ (seen second (atomOf (getD xs i d)) ∷ []) →
     wordAtoms s (n + i) ≡ wordAtoms old n ++ map (seen second) (map atomOf (take i xs)) → wordAtoms t (n + (i + 1)) ≡ wordAtoms old n ++ map (seen second) (map atomOf (take (i + 1) xs))

@@ -3,7 +3,7 @@ use Prim.Native.Nat.{ℕ, _*_, _/_, _%_, _≤_, _<_}
 use native.Mathlib.Omega.{arith}
 use mathlib.Core.Path.{_≡_, refl, sym, _∙_, ap}
 use mathlib.Core.Bool.{Bool, true, false}
-use mathlib.Core.List.{List, [], _∷_, _++_, map}
+use mathlib.Core.List.{List, [], _∷_, _++_, map, append-nil, map-append}
 use lib.ListN.{length, take}
 use lib.Seq.{length-take-le, getD-take}
 use Rattle.words.specs.Meaning.{atoms}
@@ -17,7 +17,7 @@ use Rattle.meaning.specs.declared.Atom.{Atom}
 use Rattle.meaning.specs.declared.Clause.{Clause}
 use Rattle.asked.specs.Words.{wordAtoms, slotOf, seen}
 use Rattle.asked.specs.Asked.{everyColumn, Tells, TellsMeets, three, Differs}
-use Rattle.asked.proofs.Laying.{words-same, map-append, nil-append}
+use Rattle.asked.proofs.Laying.{words-same}
 use Rattle.asked.proofs.Shared.{answered, told-apart, three-with, slot-one}
 
 -- the words that are lent
@@ -28,7 +28,7 @@ words-cut words k n e l =
     ap (wordAtoms (take k words)) (let q : length (take k words) / 11 ≡ n = omega arith in q) ∙ words-same n (take k words) words (λ i d. getD-take k words i 0 (omega arith))
 
 one-clause : (s : List ℕ) (c : m.Clause) → wordAtoms s (atoms s) ≡ map (seen false) c → (e : Contents) → clauseMet e (wordAtoms s (atoms s)) ≡ clauseMet e (map (seen false) c ++ map (seen true) [])
-one-clause s c w e = ap (clauseMet e) (w ∙ sym (nil-append (map (seen false) c)))
+one-clause s c w e = ap (clauseMet e) (w ∙ sym (append-nil (map (seen false) c)))
 
 pub meets-told : (s top : List ℕ) (n k : ℕ) (r : Bool) → k ≡ n * 11 → k ≤ length s → search.Answers (take k s) top r → TellsMeets s n top r
 meets-told s top n k r ek l h held sheet a w g u =
