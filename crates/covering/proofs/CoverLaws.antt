@@ -7,9 +7,8 @@ use mathlib.Core.Bool.{Bool, true, false, true≢false}
 use mathlib.Core.List.{List, [], _∷_, _++_}
 use lib.ListN.{length, getD}
 use Rattle.lists.specs.Lists.{All, One}
-use Rattle.lists.proofs.ListLaws.{all-at}
 use Rattle.lists.specs.Decides.{Decides}
-use Rattle.lists.proofs.ListLaws.{all-append}
+use Rattle.lists.proofs.ListLaws.{all-append, all-at}
 use Rattle.meaning.specs.Atoms.{Clause}
 use Rattle.meaning.specs.Sheets.{Sheet}
 use Rattle.meaning.specs.Reading.{found, clause}
@@ -76,6 +75,15 @@ module _ (s : List ℕ) (d : Directory) (book top : List ℕ) (a : ℕ) where
   uncovered-starts c = record { none-yet = λ sheet read ranges l u j m h. absurd (omega arith) }
 
   module _ (n : ℕ) (counted : Counted book a n) where
+    -- clause i of policy a is there, is p, and uses the sheet's variables
+    is-there : (p : Clause) (i : ℕ) → i < n → IsClause s d book a i p → (sheet : Sheet) → Read s d book sheet → a < length (sheet .policies) →
+        (i < length (clausesAt sheet a)) × (p ≡ getD (clausesAt sheet a) i []) × Uses (everyColumn sheet) sheet p
+    is-there p i m is sheet read l =
+        let size = count-is s d book sheet read a n counted l in
+        let g : i < length (clausesAt sheet a) = omega arith in
+        let q : p ≡ getD (clausesAt sheet a) i [] = is sheet read l g in
+        (g, q, subst (Uses (everyColumn sheet) sheet) (sym q) (clause-uses s d book sheet read a i l g))
+
     pub uncovered-more : (c p : Clause) (i : ℕ) (r : Bool) → i < n → IsClause s d book a i p → Tells top (p ++ c) (λ sheet. ClauseCovers sheet p c) r → r ≡ false → Uncovered c i → Uncovered c (i + 1)
     uncovered-more c p i r m is told f h =
         record {
@@ -84,23 +92,17 @@ module _ (s : List ℕ) (d : Directory) (book top : List ℕ) (a : ℕ) where
       where
         go : (sheet : Sheet) → Read s d book sheet → Ranges sheet top → a < length (sheet .policies) → Uses (everyColumn sheet) sheet c → (j : ℕ) → j < i + 1 → ClauseCovers sheet (getD (clausesAt sheet a) j []) c → Dec (j ≡ i) → ⊥
         go sheet read ranges l u j k w (yes e) =
-            let size = count-is s d book sheet read a n counted l in
-            let g : i < length (clausesAt sheet a) = omega arith in
-            let q : p ≡ getD (clausesAt sheet a) i [] = is sheet read l g in
-            let v : Uses (everyColumn sheet) sheet p = subst (Uses (everyColumn sheet) sheet) (sym q) (clause-uses s d book sheet read a i l g) in
-            told sheet ranges (all-append _ p c v u) .no f (subst (λ z. ClauseCovers sheet z c) (sym q) (subst (λ z. ClauseCovers sheet (getD (clausesAt sheet a) z []) c) e w))
+            let t = is-there p i m is sheet read l in
+            told sheet ranges (all-append _ p c (t .2) u) .no f (subst (λ z. ClauseCovers sheet z c) (sym (t .1)) (subst (λ z. ClauseCovers sheet (getD (clausesAt sheet a) z []) c) e w))
         go sheet read ranges l u j k w (no e) = h .none-yet sheet read ranges l u j (omega arith) w
 
     pub covered-by : (c p : Clause) (i : ℕ) (r : Bool) → i < n → IsClause s d book a i p → Tells top (p ++ c) (λ sheet. ClauseCovers sheet p c) r → r ≡ true → TellsCovered s d book top a c true
     covered-by c p i r m is told f =
         record {
           tells = λ sheet read ranges l u.
-              let size = count-is s d book sheet read a n counted l in
-              let g : i < length (clausesAt sheet a) = omega arith in
-              let q : p ≡ getD (clausesAt sheet a) i [] = is sheet read l g in
-              let v : Uses (everyColumn sheet) sheet p = subst (Uses (everyColumn sheet) sheet) (sym q) (clause-uses s d book sheet read a i l g) in
+              let t = is-there p i m is sheet read l in
               record {
-                yes = λ e. one-at (λ x. ClauseCovers sheet x c) [] (clausesAt sheet a) i g (subst (λ z. ClauseCovers sheet z c) q (told sheet ranges (all-append _ p c v u) .yes f));
+                yes = λ e. one-at (λ x. ClauseCovers sheet x c) [] (clausesAt sheet a) i (t .0) (subst (λ z. ClauseCovers sheet z c) (t .1) (told sheet ranges (all-append _ p c (t .2) u) .yes f));
                 no = λ e. absurd (true≢false e);
               };
         }
