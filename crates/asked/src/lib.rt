@@ -1,7 +1,7 @@
 // What dead, isolated, covers and the normal form ask of a conjunction. Clauses by value come in, and are laid into the words of `reach`; out
 // goes yes or no, told of meaning's definitions: "Drop each clause that no row and session meets", "drop an atom that the remaining others
 // imply", "Clause p covers clause q when every row and session meeting q meets p", "some row meets a with one session and b with a session of
-// another tenant". Stands on meaning (atoms, clauses, questions) and reach (the least solution).
+// another tenant". Stands on meaning (atoms, clauses, questions), words (the conjunction) and reach (the least solution).
 ghost use mathlib.Core.Path.{_≡_};
 ghost use mathlib.Core.List.{List, [], _∷_, _++_, map};
 ghost use Prim.Native.Nat.{ℕ, _+_, _*_, _/_, _%_, _≤_, _<_};

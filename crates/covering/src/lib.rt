@@ -1,7 +1,7 @@
 // Which clauses of a policy cover which of another. The bytes of an accepted sheet and its directory come in; out goes yes or no. Makes true of
 // 01, "Values and meaning": "Clause p covers clause q when every row and session meeting q meets p. Policy A covers policy B when each clause of
-// B that some row and session meets is covered by a single clause of A. Type, commands and selector play no part." Stands on sheet (the clauses
-// that the directory has) and asked (whether a clause can be met, and whether it covers another).
+// B that some row and session meets is covered by a single clause of A. Type, commands and selector play no part." Stands on sheet (where the
+// clauses are), clauses (a clause, read by value) and asked (whether a clause can be met, and whether it covers another).
 ghost use mathlib.Core.Path.{_≡_};
 ghost use mathlib.Core.List.{[]};
 ghost use Prim.Native.Nat.{_<_};

@@ -2,7 +2,7 @@
 // length, or the refusal: 1 to 11 of the sheet, 14 where the output is shorter than the sheet. "Table facts, policy order, types, commands
 // and selectors stay. A policy left with no clause stays." On a refusal no output byte changes; output beyond the length is as found. The
 // form is never longer than its sheet (proved), so that 16 is never the answer, and what is written always has room. Stands on sheet (the
-// directory), asked (step 1), pruned (the other steps) and packing (fields behind one another).
+// directory), clauses (a clause, read by value), asked (step 1), steps and pruned (the other steps), and packing (fields behind one another).
 ghost use mathlib.Core.Path.{_≡_};
 ghost use Prim.Native.Nat.{ℕ, _+_, _*_, _≤_, _<_, min};
 ghost use mathlib.Core.Bool.{cond};

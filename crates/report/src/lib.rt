@@ -1,5 +1,5 @@
 // The read-out, as document 01 lays it down: a sheet's bytes come in, and the text goes out into a lent buffer: the first line with T and P,
-// then a line for each table and command with N, live or dead, isolated or the leak; or one line with the refusal. Stands on text and answers.
+// then a line for each table and command with N, live or dead, isolated or the leak; or one line with the refusal. Stands on text, sheet and answers.
 use meaning::BranchCount;
 use meaning::Isolation;
 use meaning::Life;

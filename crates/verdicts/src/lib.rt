@@ -2,7 +2,7 @@
 // packed sheet and the numbers asked come in, judged in full 32 bits; out goes an enum, a verdict or the first refusal (1 to 13). Makes true of
 // 01, "Values and meaning": "Dead: no row and session is admitted", "A leak is named by the first pair (a, b), a before b in importance", and
 // "Policy A covers policy B when each clause of B that some row and session meets is covered by a single clause of A". Stands on sheet (the
-// directory), branches (the clauses that a branch picks) and asked (what a conjunction can be met by).
+// directory), branches (the clauses that a branch picks), asked (what a conjunction can be met by) and covering (which clauses cover which).
 ghost use mathlib.Core.Path.{_≡_};
 ghost use mathlib.Core.Bool.{false};
 ghost use mathlib.Core.List.{[], _++_, map};
