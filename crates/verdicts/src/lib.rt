@@ -156,19 +156,19 @@ fn mark(s: &[u8], d: Directory, book: &[u32], q: Question, k: u64, words: &mut [
     0
 }
 
-// The marks of the branches.
-fn marked(s: &[u8], d: Directory, book: &[u32], q: Question) -> [u8; 256]
+// The marks of the branches, each laid in the words over the one before.
+fn marked(s: &[u8], d: Directory, book: &[u32], q: Question, words: &mut [u64]) -> [u8; 256]
+    requires { ⌜ 1408 ≤ length (now words) ⌝ }
     ensures { λ r. ⌜ Marks (now (s .entry)) d (now (book .entry)) q r ⌝ }
 {
     let n = q.number;
-    let mut words = [0u64; 1408];
     let mut marks = [1u8; 256];
     let mut k: usize = 0;
     while k < 256 {
         if n <= k as u64 {
             return marks;
         }
-        marks[k] = mark(s, d, book, q, k as u64, &mut words);
+        marks[k] = mark(s, d, book, q, k as u64, words);
         k += 1;
     }
     marks
@@ -229,19 +229,25 @@ fn leaks_at(
 
 // "A leak is named by the first pair (a, b), a before b in importance": nested search, left from inside at the first leaking pair. Leaking is
 // symmetric, so that pairs with a at most b are enough; branch a is laid once, and each b behind it over the one before.
-fn first_pair(s: &[u8], d: Directory, book: &[u32], q: Question, marks: &[u8; 256]) -> Isolation
-    requires { ⌜ (q .number ≤ 256) × Marks (now s) d (now book) q (now marks) ⌝ }
+fn first_pair(
+    s: &[u8],
+    d: Directory,
+    book: &[u32],
+    q: Question,
+    marks: &[u8; 256],
+    words: &mut [u64],
+) -> Isolation
+    requires { ⌜ (q .number ≤ 256) × Marks (now s) d (now book) q (now marks) × (2816 ≤ length (now words)) ⌝ }
     ensures { λ r. ⌜ ((sheet : Sheet) (t command : ℕ) → Poses (now (s .entry)) d (now (book .entry)) q sheet t command → IsolationOf sheet t command r) ⌝ }
 {
     let n = q.number as usize;
-    let mut words = [0u64; 2816];
     let mut found = Isolation::Isolated;
     let mut a: usize = 0;
     'search: while a < n {
-        let laid = lay_at(s, d, book, q, a as u64, &mut words);
+        let laid = lay_at(s, d, book, q, a as u64, words);
         let mut b = a;
         while b < n {
-            if leaks_at(s, d, book, q, marks, &mut words, laid, a, b) {
+            if leaks_at(s, d, book, q, marks, words, laid, a, b) {
                 found = Isolation::Leaks(a as u32, b as u32);
                 break 'search;
             }
@@ -252,11 +258,12 @@ fn first_pair(s: &[u8], d: Directory, book: &[u32], q: Question, marks: &[u8; 25
     found
 }
 
-// The branches are marked before the pairs are laid, so that the words of the one are gone when those of the other are needed.
+// The branches are marked before the pairs are laid, and both in the same words, so that only one array of them is on the stack.
 fn first_leak(s: &[u8], d: Directory, book: &[u32], q: Question) -> Isolation
     requires { ⌜ q .number ≤ 256 ⌝ }
     ensures { λ r. ⌜ ((sheet : Sheet) (t command : ℕ) → Poses (now (s .entry)) d (now (book .entry)) q sheet t command → IsolationOf sheet t command r) ⌝ }
 {
-    let marks = marked(s, d, book, q);
-    first_pair(s, d, book, q, &marks)
+    let mut words = [0u64; 2816];
+    let marks = marked(s, d, book, q, &mut words);
+    first_pair(s, d, book, q, &marks, &mut words)
 }
