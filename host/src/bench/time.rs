@@ -71,7 +71,7 @@ pub fn time<T>(effort: Effort, mut call: impl FnMut() -> T) -> Timing {
 
 /// What several take for the same, in turn, a round after another, so that a slow moment of the machine falls on all.
 #[derive(Default)]
-pub struct Rounds([Vec<f64>; 3]);
+pub struct Rounds([Vec<f64>; 4]);
 
 impl Rounds {
     pub fn add(&mut self, who: usize, seconds: Option<f64>) {

@@ -1,11 +1,11 @@
 //! Verdicts: dead, isolated and covers beside z3 asked the same.
 
-use super::figures::{by_library, cell, ratio, times_as};
+use super::figures::{by_library, cell, times_as};
 use super::plot::Series;
 use super::report::Report;
 use super::sheets::{self, Apart, Leak};
 use super::smt;
-use super::time::{readable, time, Effort, Rounds, Timing, QUICK};
+use super::time::{once, readable, time, Effort, Rounds, QUICK};
 use crate::library::{self, exports};
 use crate::making::random::Random;
 use crate::making::sheets as random_sheets;
@@ -16,25 +16,47 @@ use crate::reading::{calls, pack, parse::parse};
 use std::io;
 use std::time::Instant;
 
-/// Seconds that z3 takes for the script, its start taken off, and what it found.
-fn by_z3(script: &str, repeats: usize) -> Option<(Timing, Vec<bool>)> {
-    let timed = |text: &str| {
-        let start = Instant::now();
-        let found = smt::run(text);
-        (start.elapsed().as_secs_f64(), found)
-    };
-    let start = Timing::of((0..QUICK.runs).map(|_| timed("").0).collect()).median;
-    let text = script.repeat(repeats);
-    let found = smt::run(script).ok()?;
-    let run = |_| ((timed(&text).0 - start) / repeats as f64).max(1e-6);
-    Some((Timing::of((0..QUICK.runs).map(run).collect()), found))
-}
-
 /// Seconds that something takes.
 fn seconds(ask: impl FnOnce()) -> f64 {
     let start = Instant::now();
     ask();
     start.elapsed().as_secs_f64()
+}
+
+/// Seconds that z3 takes for one of the repeated scripts, its start taken off.
+fn by_z3(scripts: &str, repeats: usize) -> f64 {
+    let ask = |script: &str| seconds(|| drop(smt::run(script)));
+    ((ask(scripts) - ask("")) / repeats as f64).max(1e-6)
+}
+
+/// The library, plain Rust, z3 asked for a leak in one formula and z3 asked for the first pair, in turn.
+fn in_turn(sheet: &Sheet, n: usize, leaks: bool, effort: Effort, quick: bool) -> Rounds {
+    let packed = pack::sheet(sheet);
+    let z3 = smt::is_installed();
+    let often = if quick { 1 } else { 10 };
+    let first = match isolation(sheet, 0, 0) {
+        Isolation::Isolated => None,
+        Isolation::Leaks(a, b) => Some((a as usize, b as usize)),
+    };
+    // In the short form z3 isn't asked for thousands of pairs.
+    let few = first == Some((0, 0)) || n <= if quick { 16 } else { 256 };
+    let repeats = if first == Some((0, 0)) || n <= 16 { often } else { 1 };
+    let (whole, paired) = (smt::isolated(sheet, 0, 0), smt::pairs(sheet, 0, 0, first));
+    for script in [Some(&whole), few.then_some(&paired)].into_iter().flatten() {
+        if let Ok(found) = smt::run(script) {
+            assert_eq!(found.contains(&true), leaks, "z3 differs");
+        }
+    }
+    let (whole, paired) = (whole.repeat(often), paired.repeat(repeats));
+    let mut rounds = Rounds::default();
+    for _ in 0..QUICK.runs {
+        let ours = || once(effort, || library::isolated(&packed, 0, 0));
+        rounds.add(0, exports("isolated").then(ours));
+        rounds.add(1, Some(once(effort, || calls::isolated(&packed, 0, 0))));
+        rounds.add(2, z3.then(|| by_z3(&whole, often)));
+        rounds.add(3, (z3 && few).then(|| by_z3(&paired, repeats)));
+    }
+    rounds
 }
 
 /// 2. Verdicts by the number of branches and the place of the leak.
@@ -62,30 +84,16 @@ pub fn verdicts(report: &mut Report, effort: Effort, quick: bool) -> io::Result<
             [1, 16, 64, 256].iter().flat_map(|&n| [Leak::First, Leak::Last, Leak::None].map(|leak| (n, leak)))
         {
             let sheet = sheets::branches(n, leak, apart);
-            let packed = pack::sheet(&sheet);
-            let ours = by_library(effort, "isolated", || library::isolated(&packed, 0, 0));
-            let rust = time(effort, || calls::isolated(&packed, 0, 0));
-            let often = if quick { 1 } else { 10 };
-            let whole = by_z3(&smt::isolated(&sheet, 0, 0), often);
-            let first = match isolation(&sheet, 0, 0) {
-                Isolation::Isolated => None,
-                Isolation::Leaks(a, b) => Some((a as usize, b as usize)),
-            };
-            // In the short form z3 isn't asked for thousands of pairs.
-            let few = first == Some((0, 0)) || n <= if quick { 16 } else { 256 };
-            let repeats = if first == Some((0, 0)) || n <= 16 { often } else { 1 };
-            let paired = few.then(|| by_z3(&smt::pairs(&sheet, 0, 0, first), repeats)).flatten();
-            if let (Some((_, whole)), Some((_, paired))) = (&whole, &paired) {
-                assert!(whole[0] == (leak != Leak::None) && paired.contains(&true) == whole[0], "z3 differs");
-            }
-            let times = [ours, Some(rust), whole.map(|t| t.0), paired.map(|t| t.0)];
+            let rounds = in_turn(&sheet, n, leak != Leak::None, effort, quick);
+            let times = [0, 1, 2, 3].map(|who| rounds.timing(who));
+            let ratios = [0, 1].map(|other| times_as(rounds.ratio(3, other)));
             let [a, b, c, d] = times.map(|time| time.map(|time| time.median));
             if let (Some(a), Some(d)) = (a, d) {
                 totals[0] += a;
                 totals[1] += d;
             }
             let name = [format!("{apart:?}").to_lowercase(), format!("{leak:?}").to_lowercase(), n.to_string()];
-            report.row(&[&name[..], &times.map(cell)[..], &[ratio(d, a), ratio(d, b)]].concat());
+            report.row(&[&name[..], &times.map(cell)[..], &ratios[..]].concat());
             if leak == Leak::None && apart == Apart::List {
                 for (series, time) in plots.iter_mut().zip([a, b, c, d]) {
                     series.extend(time.map(|time| (n as f64, time)));
