@@ -33,11 +33,11 @@ sets-null present values v {x} l e =
       others = λ u o. ap (λ (b : ℕ). cond (eqb b 0) Null (Value (getD values u 0))) (getD-set-other present v u 0 0 o);
     }
 
-pub sets-read : (present values : List ℕ) (v b n : ℕ) {x : Content} → v < length present → v < length values → x ≡ cond (eqb b 0) Null (Value n) → Sets v x (held present values) (held (set present v b) (set values v n))
-sets-read present values v b n {x} l m e =
+pub sets-value : (present values : List ℕ) (v n : ℕ) {x : Content} → v < length present → v < length values → x ≡ Value n → Sets v x (held present values) (held (set present v 1) (set values v n))
+sets-value present values v n {x} l m e =
     record {
-      at = simp (getD-set-same present v b 0 l, getD-set-same values v n 0 m) (sym e);
-      others = λ u o. simp (getD-set-other present v u b 0 o, getD-set-other values v u n 0 o);
+      at = simp (getD-set-same present v 1 0 l, getD-set-same values v n 0 m) (sym e);
+      others = λ u o. simp (getD-set-other present v u 1 0 o, getD-set-other values v u n 0 o);
     }
 
 -- one variable more

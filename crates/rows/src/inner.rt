@@ -5,18 +5,18 @@ use bits::within64;
 use values::last_of;
 use values::raw_of;
 ghost use mathlib.Core.Path.{_≡_};
-ghost use Prim.Native.Nat.{ℕ, _+_, _*_, _^_, _≤_, _<_};
-ghost use mathlib.Core.Bool.{Bool, true};
+ghost use Prim.Native.Nat.{ℕ, _+_, _*_, _/_, _^_, _≤_};
+ghost use mathlib.Core.Bool.{Bool, true, false};
 ghost use mathlib.Core.List.{List};
 ghost use lib.ListN.{length};
 ghost use Rattle.meaning.specs.Values.{Kind, kindNumber};
 ghost use Rattle.meaning.specs.Reading.{content, contents};
 ghost use Rattle.rows.specs.Held.{within, endOf, held, Cells, Fields, ContentsHeld};
 
-// Are the longest contents of n columns there from bit number `from` on?
+// Are the longest contents of n columns surely there from bit number `from` on? By bytes, nine for each.
 pub fn has_room(s: &[u8], from: usize, n: usize) -> bool
     requires { ⌜ (from ≤ 2 ^ 31) × (n ≤ 16) ⌝ }
-    ensures { λ r. ⌜ (r ≡ true → from + 65 * n ≤ length (now (s .entry)) * 8) ⌝ }
+    ensures { λ r. ⌜ (r ≡ true → from + 65 * n ≤ length (now (s .entry)) * 8) × (r ≡ false → length (now (s .entry)) ≤ from / 8 + 9 * n) ⌝ }
 {
     if s.len() < from / 8 + 9 * n + 1 {
         return false;

@@ -47,7 +47,7 @@ fn wide(b: u8) -> u64
 // The bit at bit number p.
 pub fn bit_at(s: &[u8], p: usize) -> u64
     requires { ⌜ p / 8 < length (now s) ⌝ }
-    ensures { λ r. ⌜ (r ≡ number (now (s .entry)) p 1) × (r ≤ 1) ⌝ }
+    ensures { λ r. ⌜ r ≡ number (now (s .entry)) p 1 ⌝ }
 {
     (wide(s[p / 8]) >> (7 - p % 8)) % 2
 }

@@ -1,5 +1,4 @@
 -- `rows::bit_at` meets its contract. A bit of a byte, by a shift and a remainder.
-use native.Mathlib.Omega.{arith}
 use Rattle.rows.proofs.ContentLaws.{bit-number}
 use borrow.Author.Needs.{needs}
 use Rattle.rows.proofs.bit_at.Statement.{statement}
@@ -18,7 +17,7 @@ shr-result : tie.Need-shr-result
 shr-result c = search needs
 
 returns : tie.Need-returns
-returns c = (bit-number _ _ (c .wide .ensures), omega arith)
+returns c = bit-number _ _ (c .wide .ensures)
 
 pub bit-at-spec : {M : Type 1} → statement M
 bit-at-spec =

@@ -10,10 +10,10 @@ has-room-requires : tie.Need-has-room-requires
 has-room-requires c κs = search needs
 
 contents-within-requires : tie.Need-contents-within-requires
-contents-within-requires c κs = (search needs, c .before .before .before .has-room .ensures (c .before .before .if1 .taken), search needs, omega arith, c .before .before .before .before .before .pre .3)
+contents-within-requires c κs = (search needs, c .before .before .before .has-room .ensures .0 (c .before .before .if1 .taken), search needs, omega arith, c .before .before .before .before .before .pre .3)
 
 returns : tie.Need-returns
-returns c = let room = c .before .before .before .before .has-room .ensures (c .before .before .before .if1 .taken) in let most = c .contents-within .ensures .2 in (c .contents-within .ensures .0, c .contents-within .ensures .1, most, omega arith, c .contents-within .ensures .3)
+returns c = let room = c .before .before .before .before .has-room .ensures .0 (c .before .before .before .if1 .taken) in let most = c .contents-within .ensures .2 in (c .contents-within .ensures .0, c .contents-within .ensures .1, most, omega arith, c .contents-within .ensures .3)
 
 contents-at-requires : tie.Need-contents-at-requires
 contents-at-requires c κs = search needs

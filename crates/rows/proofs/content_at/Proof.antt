@@ -15,13 +15,13 @@ add-t10 : tie.Need-add-t10
 add-t10 c = search needs
 
 returns-2 : tie.Need-returns-2
-returns-2 c = ((omega arith, omega arith, omega arith), λ k K. content-null k _ _ (c .before .before .if1 .left) (c .before .bit-at .ensures .0) (c .if2 .taken))
+returns-2 c = ((omega arith, omega arith, omega arith), λ k K. content-null k _ _ (c .before .before .if1 .left) (c .before .bit-at .ensures) (c .if2 .taken))
 
 add-if3 : tie.Need-add-if3
 add-if3 c = search needs
 
 returns-3 : tie.Need-returns-3
-returns-3 c = (tt, λ k K. content-short k _ _ (c .before .before .before .if1 .left) (c .before .before .bit-at .ensures .0) (c .before .if2 .left) (c .if3 .taken))
+returns-3 c = (tt, λ k K. content-short k _ _ (c .before .before .before .if1 .left) (c .before .before .bit-at .ensures) (c .before .if2 .left) (c .if3 .taken))
 
 add-within64 : tie.Need-add-within64
 add-within64 c = search needs
@@ -39,10 +39,10 @@ add-t13 : tie.Need-add-t13
 add-t13 c = search needs
 
 returns-4 : tie.Need-returns-4
-returns-4 c = ((omega arith, omega arith, omega arith), λ k K. content-value k _ _ (c .before .before .before .before .before .before .before .if1 .left) (c .before .before .before .before .before .before .bit-at .ensures .0) (c .before .before .before .before .before .if2 .left) (c .before .before .before .before .if3 .left) (c .before .before .before .within64 .ensures) (c .before .before .raw-of .ensures k K) (c .before .last-of .ensures k K) (c .if4 .taken))
+returns-4 c = ((omega arith, omega arith, omega arith), λ k K. content-value k _ _ (c .before .before .before .before .before .before .before .if1 .left) (c .before .before .before .before .before .before .bit-at .ensures) (c .before .before .before .before .before .if2 .left) (c .before .before .before .before .if3 .left) (c .before .before .before .within64 .ensures) (c .before .before .raw-of .ensures k K) (c .before .last-of .ensures k K) (c .if4 .taken))
 
 returns-5 : tie.Need-returns-5
-returns-5 c = (tt, λ k K. content-strange k _ _ (c .before .before .before .before .before .before .before .if1 .left) (c .before .before .before .before .before .before .bit-at .ensures .0) (c .before .before .before .before .before .if2 .left) (c .before .before .before .before .if3 .left) (c .before .before .before .within64 .ensures) (c .before .before .raw-of .ensures k K) (c .before .last-of .ensures k K) (c .if4 .left))
+returns-5 c = (tt, λ k K. content-strange k _ _ (c .before .before .before .before .before .before .before .if1 .left) (c .before .before .before .before .before .before .bit-at .ensures) (c .before .before .before .before .before .if2 .left) (c .before .before .before .before .if3 .left) (c .before .before .before .within64 .ensures) (c .before .before .raw-of .ensures k K) (c .before .last-of .ensures k K) (c .if4 .left))
 
 pub content-at-spec : {M : Type 1} → statement M
 content-at-spec =

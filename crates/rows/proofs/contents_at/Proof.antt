@@ -9,7 +9,7 @@ use borrow.Author.Needs.{needs}
 use Rattle.meaning.specs.Values.{Kind}
 use Rattle.rows.specs.Held.{held, Cells, Fields}
 use Rattle.rows.proofs.ContentLaws.{ends-by}
-use Rattle.rows.proofs.FillLaws.{Going, going-starts, going-done, going-skips, going-reads, going-stops, sets-null, sets-read}
+use Rattle.rows.proofs.FillLaws.{Going, going-starts, going-done, going-skips, going-reads, going-stops, sets-null, sets-value}
 use Rattle.rows.proofs.contents_at.Statement.{statement}
 use Rattle.rows.proofs.contents_at.Tie as tie
 
@@ -85,7 +85,7 @@ loop-again-2 c =
     let room : c .before .before .before .before .before .before .before .before .before .before .before .before .args .first + c .before .before .before .before .before .before .before .before .before .before .loop .c < length (c .before .before .before .before .before .before .before .before .before .before .loop .present) = omega arith in
     let place : c .before .before .before .before .before .before .before .before .before .before .before .before .args .first + c .before .before .before .before .before .before .before .before .before .before .loop .c < length (c .before .before .before .before .before .before .before .before .before .before .loop .values) = omega arith in
     let small = ends-by _ _ _ (c .before .before .before .before .got .given .1) (c .before .before .before .before .before .before .content-at .ensures .0) in
-    (omega arith, omega arith, omega arith, omega arith, (search needs, search needs), λ f ks F. going-reads _ _ _ _ f ks F _ _ _ _ _ _ (c .before .before .before .before .before .before .before .before .before .before .loop .inv .5 f ks F) (c .before .before .before .before .before .before .before .before .before .loop-test .taken) (omega arith) (c .before .before .before .before .before .before .before .before .if1 .taken) (c .before .before .before .before .before .before .content-at .ensures .1) (c .before .before .before .before .got .given .1) (sets-read (c .before .before .before .before .before .before .before .before .before .before .loop .present) (c .before .before .before .before .before .before .before .before .before .before .loop .values) _ 1 _ room place (c .before .x .given .1)))
+    (omega arith, omega arith, omega arith, omega arith, (search needs, search needs), λ f ks F. going-reads _ _ _ _ f ks F _ _ _ _ _ _ (c .before .before .before .before .before .before .before .before .before .before .loop .inv .5 f ks F) (c .before .before .before .before .before .before .before .before .before .loop-test .taken) (omega arith) (c .before .before .before .before .before .before .before .before .if1 .taken) (c .before .before .before .before .before .before .content-at .ensures .1) (c .before .before .before .before .got .given .1) (sets-value (c .before .before .before .before .before .before .before .before .before .before .loop .present) (c .before .before .before .before .before .before .before .before .before .before .loop .values) _ _ room place (c .before .x .given .1)))
 
 element-write-present-3 : tie.Need-element-write-present-3 Inv-loop μ-loop
 element-write-present-3 c = search needs

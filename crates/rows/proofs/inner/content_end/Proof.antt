@@ -18,7 +18,7 @@ add-t6 : tie.Need-add-t6
 add-t6 c = search needs
 
 returns : tie.Need-returns
-returns c = ((omega arith, omega arith, omega arith), λ k K. ends-as (content k _ _) (content-null k _ _ (omega arith) (c .before .bit-at .ensures .0) (c .if1 .taken)))
+returns c = ((omega arith, omega arith, omega arith), λ k K. ends-as (content k _ _) (content-null k _ _ (omega arith) (c .before .bit-at .ensures) (c .if1 .taken)))
 
 add-t7 : tie.Need-add-t7
 add-t7 c = search needs
@@ -28,7 +28,7 @@ returns-2 c = (
   (omega arith, omega arith, omega arith),
   λ k K.
       let n = number (c .before .before .before .before .args .s .now) (c .before .before .before .before .args .p + 1) 64 in
-      ends-as (content k _ _) (content-value k _ _ (omega arith) (c .before .before .bit-at .ensures .0) (c .before .if1 .left) (omega arith) {x = n} refl refl refl (integer-fits k n (K ∙ c .if2 .taken) (number-lt _ _ 64))),
+      ends-as (content k _ _) (content-value k _ _ (omega arith) (c .before .before .bit-at .ensures) (c .before .if1 .left) (omega arith) {x = n} refl refl refl (integer-fits k n (K ∙ c .if2 .taken) (number-lt _ _ 64))),
 )
 
 add-within64 : tie.Need-add-within64
@@ -47,10 +47,10 @@ add-t11 : tie.Need-add-t11
 add-t11 c = search needs
 
 returns-3 : tie.Need-returns-3
-returns-3 c = ((omega arith, omega arith, omega arith), λ k K. ends-as (content k _ _) (content-value k _ _ (omega arith) (c .before .before .before .before .before .before .bit-at .ensures .0) (c .before .before .before .before .before .if1 .left) (omega arith) (c .before .before .before .within64 .ensures) (c .before .before .raw-of .ensures k K) (c .before .last-of .ensures k K) (c .if3 .taken)))
+returns-3 c = ((omega arith, omega arith, omega arith), λ k K. ends-as (content k _ _) (content-value k _ _ (omega arith) (c .before .before .before .before .before .before .bit-at .ensures) (c .before .before .before .before .before .if1 .left) (omega arith) (c .before .before .before .within64 .ensures) (c .before .before .raw-of .ensures k K) (c .before .last-of .ensures k K) (c .if3 .taken)))
 
 returns-4 : tie.Need-returns-4
-returns-4 c = (tt, λ k K. ends-as (content k _ _) (content-strange k _ _ (omega arith) (c .before .before .before .before .before .before .bit-at .ensures .0) (c .before .before .before .before .before .if1 .left) (omega arith) (c .before .before .before .within64 .ensures) (c .before .before .raw-of .ensures k K) (c .before .last-of .ensures k K) (c .if3 .left)))
+returns-4 c = (tt, λ k K. ends-as (content k _ _) (content-strange k _ _ (omega arith) (c .before .before .before .before .before .before .bit-at .ensures) (c .before .before .before .before .before .if1 .left) (omega arith) (c .before .before .before .within64 .ensures) (c .before .before .raw-of .ensures k K) (c .before .last-of .ensures k K) (c .if3 .left)))
 
 pub content-end-spec : {M : Type 1} → statement M
 content-end-spec = tie.close (tie.spec bit-at-requires add-t6 returns add-t7 returns-2 add-within64 within64-requires raw-of-requires last-of-requires add-t11 returns-3 returns-4)

@@ -11,7 +11,7 @@ use Rattle.meaning.specs.Values.{Kind}
 use Rattle.meaning.specs.Reading.{found, contents}
 use Rattle.rows.specs.Held.{held, Cells, Fields}
 use Rattle.rows.proofs.ContentLaws.{content-null}
-use Rattle.rows.proofs.FillLaws.{Going, going-starts, going-held, going-skips, going-reads, going-value, sets-null, sets-read}
+use Rattle.rows.proofs.FillLaws.{Going, going-starts, going-held, going-skips, going-reads, going-value, sets-null, sets-value}
 use Rattle.rows.proofs.inner.contents_within.Statement.{statement}
 use Rattle.rows.proofs.inner.contents_within.Tie as tie
 
@@ -52,7 +52,7 @@ loop-less c = search needs
 loop-again : tie.Need-loop-again Inv-loop μ-loop
 loop-again c =
     let room : c .before .before .before .before .before .before .args .first + c .before .before .before .before .loop .c < length (c .before .before .before .before .loop .present) = omega arith in
-    (omega arith, omega arith, omega arith, (search needs, search needs), λ f ks F xs q is. going-reads _ _ _ _ f ks F _ _ _ _ _ _ (c .before .before .before .before .loop .inv .4 f ks F xs q is) (c .before .before .before .loop-test .taken) (omega arith) (c .before .before .if1 .taken) (λ k K. content-null k _ _ (omega arith) (c .before .bit-at .ensures .0) (c .if2 .taken)) refl (sets-null (c .before .before .before .before .loop .present) (c .before .before .before .before .loop .values) _ room refl))
+    (omega arith, omega arith, omega arith, (search needs, search needs), λ f ks F xs q is. going-reads _ _ _ _ f ks F _ _ _ _ _ _ (c .before .before .before .before .loop .inv .4 f ks F xs q is) (c .before .before .before .loop-test .taken) (omega arith) (c .before .before .if1 .taken) (λ k K. content-null k _ _ (omega arith) (c .before .bit-at .ensures) (c .if2 .taken)) refl (sets-null (c .before .before .before .before .loop .present) (c .before .before .before .before .loop .values) _ room refl))
 
 element-write-present-2 : tie.Need-element-write-present-2 Inv-loop μ-loop
 element-write-present-2 c = search needs
@@ -88,7 +88,7 @@ loop-again-2 : tie.Need-loop-again-2 Inv-loop μ-loop
 loop-again-2 c =
     let room : c .before .before .before .before .before .before .before .before .before .args .first + c .before .before .before .before .before .before .before .loop .c < length (c .before .before .before .before .before .before .before .loop .present) = omega arith in
     let place : c .before .before .before .before .before .before .before .before .before .args .first + c .before .before .before .before .before .before .before .loop .c < length (c .before .before .before .before .before .before .before .loop .values) = omega arith in
-    (omega arith, omega arith, omega arith, (search needs, search needs), λ f ks F xs q is. going-value _ _ _ _ f ks F _ _ _ _ _ _ (c .before .before .before .before .before .before .before .loop .inv .4 f ks F xs q is) (c .before .before .before .before .before .before .loop-test .taken) (omega arith) (c .before .before .before .before .before .if1 .taken) (omega arith) (c .before .before .before .before .bit-at .ensures .0) (c .before .before .before .if2 .left) (omega arith) (c .before .within64 .ensures) (c .raw-of .ensures) is (sets-read (c .before .before .before .before .before .before .before .loop .present) (c .before .before .before .before .before .before .before .loop .values) _ 1 _ room place refl))
+    (omega arith, omega arith, omega arith, (search needs, search needs), λ f ks F xs q is. going-value _ _ _ _ f ks F _ _ _ _ _ _ (c .before .before .before .before .before .before .before .loop .inv .4 f ks F xs q is) (c .before .before .before .before .before .before .loop-test .taken) (omega arith) (c .before .before .before .before .before .if1 .taken) (omega arith) (c .before .before .before .before .bit-at .ensures) (c .before .before .before .if2 .left) (omega arith) (c .before .within64 .ensures) (c .raw-of .ensures) is (sets-value (c .before .before .before .before .before .before .before .loop .present) (c .before .before .before .before .before .before .before .loop .values) _ _ room place refl))
 
 element-write-present-3 : tie.Need-element-write-present-3 Inv-loop μ-loop
 element-write-present-3 c = search needs

@@ -15,10 +15,10 @@ add-if1-2 : tie.Need-add-if1-2
 add-if1-2 c = search needs
 
 returns : tie.Need-returns
-returns c = λ e. absurd (true≢false (sym e))
+returns c = (λ e. absurd (true≢false (sym e)), λ e. search needs)
 
 returns-2 : tie.Need-returns-2
-returns-2 c = search needs
+returns-2 c = (λ e. search needs, λ e. absurd (true≢false e))
 
 pub has-room-spec : {M : Type 1} → statement M
 has-room-spec = tie.close (tie.spec mul-if1 add-if1 add-if1-2 returns returns-2)

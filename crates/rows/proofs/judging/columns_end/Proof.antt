@@ -1,5 +1,4 @@
 -- `rows::judging::columns_end` meets its contract: both ways end in the same place.
-use native.Mathlib.Omega.{arith}
 use borrow.Author.Needs.{needs}
 use Rattle.meaning.specs.Reading.{contents}
 use Rattle.rows.proofs.RowLaws.{contents-end}
@@ -10,7 +9,7 @@ has-room-requires : tie.Need-has-room-requires
 has-room-requires c κs = search needs
 
 contents-end-requires : tie.Need-contents-end-requires
-contents-end-requires c κs = (search needs, c .before .has-room .ensures (c .if1 .taken), search needs)
+contents-end-requires c κs = (search needs, c .before .has-room .ensures .0 (c .if1 .taken), search needs)
 
 returns : tie.Need-returns
 returns c = (c .before .before .before .before .pre .3, c .contents-end .ensures .0, c .contents-end .ensures .1)
