@@ -4,6 +4,7 @@
 // clauses at the first that is met, policies at the first that denies. Makes true: "A row is admitted when a permissive policy is met and every
 // restrictive one is met. With no permissive policy nothing is admitted". Stands on bits, meaning, values and rows; specs/Plan.antt says what the
 // numbers stand for.
+#![tactic(auto)]
 
 pub mod laying;
 pub mod meeting;

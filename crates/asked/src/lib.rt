@@ -2,6 +2,7 @@
 // goes yes or no, told of meaning's definitions: "Drop each clause that no row and session meets", "drop an atom that the remaining others
 // imply", "Clause p covers clause q when every row and session meeting q meets p", "some row meets a with one session and b with a session of
 // another tenant". Stands on meaning (atoms, clauses, questions), words (the conjunction) and reach (the least solution).
+#![tactic(auto)]
 ghost use Rattle.std.specs.Prelude.{◌≡◌, List, [], ◌∷◌, ◌++◌, map, ℕ, ◌+◌, ◌*◌, ◌/◌, ◌%◌, ◌≤◌, ◌<◌, length, get_or, true};
 ghost use Rattle.meaning.specs.Questions.{ClauseCovers, LiveClause};
 ghost use Rattle.meaning.specs.Views.{atom_of, clause_of, KindsAre};

@@ -3,6 +3,7 @@
 // and meaning": "N is the sum of the permissive policies' clause counts times the product of the restrictive ones' counts", and "Branches are
 // numbered from 0 in sheet order, the permissive clause varying slowest and the last restrictive policy fastest." Stands on meaning and sheet,
 // which say what roles and counts a sheet's policies have.
+#![tactic(auto)]
 ghost use Rattle.std.specs.Prelude.{◌≡◌, ℕ, ◌+◌, ◌*◌, ◌/◌, ◌%◌, ◌<◌, ◌≤◌, min, cond, List, length};
 ghost use Rattle.meaning.specs.Sheets.{Sheet};
 ghost use Rattle.meaning.specs.Allowed.{SheetAllowed};

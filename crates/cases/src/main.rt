@@ -1,4 +1,5 @@
 // Runs the cases of data/ (its README has the format) through the public calls, and prints how many of each file came out as document 01 has them.
+#![tactic(auto)]
 ghost use Rattle.std.specs.Prelude.{◌≡◌, length};
 ghost use Rattle.io.specs.Counts.{IsPrefixLen};
 

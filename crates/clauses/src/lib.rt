@@ -2,6 +2,7 @@
 // (2, and 4 to 7) that document 01 gives, in its fixed order; or only where a clause ends, and whether a set holds every column that it uses.
 // Makes true of 01, "The packed sheet", what it says of variables, operators, lists, values and clauses. Stands on bits, meaning, values and
 // place; specs/Ends.antt says what a reading answers.
+#![tactic(auto)]
 
 use bits::Place;
 use meaning::{Atom, Clause};

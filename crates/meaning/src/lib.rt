@@ -2,6 +2,7 @@
 // crates above cite these definitions in their promises. Read specs/ in the order of specs/Lib.antt; each definition carries its sentence of
 // 01. proofs/ has the laws that show the definitions to be right, and the mathematics of the customer's demands. The code is what every crate
 // above needs of one atom: is it met by what its variables hold?
+#![tactic(auto)]
 ghost use Rattle.std.specs.Prelude.{◌≡◌, take};
 ghost use Rattle.meaning.specs.Values.{Contents};
 ghost use Rattle.meaning.specs.Atoms as atoms;

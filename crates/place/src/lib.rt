@@ -2,6 +2,7 @@
 // each with the place after it, or a refusal number. "The reading place is one byte number and one bit number, and each field read moves it on"
 // (01, "The packed sheet"): `next_field` and `next_count` take the lent place apart, call a covered function on the slice and numbers, and
 // store the place that it answers; a refusal leaves the place unmoved. All judging is in covered functions. Stands on bits, meaning, values.
+#![tactic(auto)]
 ghost use Rattle.std.specs.Prelude.{◌≡◌, ℕ, length, get_or};
 ghost use Rattle.bits.specs.Fields.{place_at, field_at};
 ghost use Rattle.meaning.specs.Sheets.{Sheet};

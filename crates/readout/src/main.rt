@@ -1,5 +1,6 @@
 // The read-out program: one sheet on standard input, the read-out of document 01 on standard output. A sheet of more than 16,384 bytes is
 // refused by 1, so that no more than one byte past them is read.
+#![tactic(auto)]
 use libc::{STDIN_FILENO, STDOUT_FILENO};
 
 fn main() {

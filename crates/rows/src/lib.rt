@@ -3,6 +3,7 @@
 // true: "A session is, for each key ascending, one presence bit (0 is null) and, if that is 1, a value of its kind; zero bits fill the last
 // byte. A row is the same over the columns that its table holds". A list is judged whole (`judging`) before its rows are read; `inner` has both
 // for rows with room behind them. Stands on bits, meaning and values; specs/Held.antt says what an answer stands for.
+#![tactic(auto)]
 ghost use Rattle.std.specs.Prelude.{◌≡◌, ℕ, ◌+◌, ◌*◌, ◌/◌, ◌^◌, ◌≤◌, ◌<◌, Bool, true, List, length};
 ghost use Rattle.bits.specs.Bits.{number};
 ghost use Rattle.meaning.specs.Values.{Kind, kind_number};

@@ -1,5 +1,6 @@
 // The words of a case file (crates/cases/data/README.md): words parted by one space, lines ended by a newline, bytes in hex, numbers in decimal. A file's
 // bytes come in with a place; a word's bounds, a number or bytes go out. Total: a file that is not of this form gives some words too.
+#![tactic(auto)]
 ghost use Rattle.std.specs.Prelude.{◌≡◌, ◌+◌, ◌≤◌, ◌<◌, min, length, get_or, drop};
 ghost use Rattle.std.proofs.Math.Seq.{slice};
 ghost use Rattle.io.specs.Counts.{IsPrefixLen};

@@ -2,6 +2,7 @@
 // its fixed order. The caller's bytes stay the only copy: the directory has the counts and kinds, and a lent book the table facts and the places
 // of selectors and clauses, so that no later layer parses again and nothing large is copied. Stands on bits, meaning, values, place and clauses;
 // specs/Directory.antt ties a directory and its book to the sheet that the definitions read.
+#![tactic(auto)]
 
 use clauses::{End, Facts};
 

@@ -2,6 +2,7 @@
 // refusal number: 2 where its 64 bits are not wholly there, 7 where it is not of the kind ("2 before the field's own fault"). Sheets, sessions
 // and rows all read their values here. Stands on bits and meaning; specs/Reads.antt says how an answer of the code stands for what the
 // definitions read.
+#![tactic(auto)]
 ghost use Rattle.std.specs.Prelude.{◌≡◌, ℕ};
 ghost use Rattle.bits.specs.Fields.{place_at};
 ghost use Rattle.meaning.specs.Values.{Kind, kind_number, last, raw};

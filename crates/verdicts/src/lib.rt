@@ -3,6 +3,7 @@
 // 01, "Values and meaning": "Dead: no row and session is admitted", "A leak is named by the first pair (a, b), a before b in importance", and
 // "Policy A covers policy B when each clause of B that some row and session meets is covered by a single clause of A". Stands on sheet (the
 // directory), branches (the clauses that a branch picks), asked (what a conjunction can be met by) and covering (which clauses cover which).
+#![tactic(auto)]
 ghost use Rattle.std.specs.Prelude.{◌≡◌, false, [], ◌++◌, map, ℕ, ◌+◌, ◌*◌, ◌<◌, ◌≤◌, length, get_or};
 ghost use Rattle.lists.specs.Decides.{Decides};
 ghost use Rattle.meaning.specs.Sheets.{Sheet};

@@ -1,6 +1,7 @@
 // A conjunction of atoms in words: what its atoms are, which variables they tie to one another and which they need non-null. Words come in,
 // eleven an atom, over variables 0..31: columns, the first session's keys, the second's. "Every atom but "is null" needs its variables
 // non-null." Every slice is a conjunction: words that are no atom have a meaning in specs/Meaning.antt. Stands on no other crate.
+#![tactic(auto)]
 ghost use Rattle.std.specs.Prelude.{◌≡◌, true, ℕ, ◌/◌, ◌<◌, length, get_or};
 ghost use Rattle.words.specs.Meaning.{wants, test_at, var_at};
 ghost use Rattle.words.specs.Ties.{mate_at, Needs, Tied, renamed, Renames, Classes};
