@@ -152,7 +152,7 @@ module _ (sheet : Sheet) (others : m.Clause) (a : m.Atom) where
       go true q =
           absurd
           (h
-          record { row = row; session = session; is_row = r; is-session = s; meets = append_every (met (with row session)) others (f ∷ []) c (join (met (with row session) f) true q refl) })
+          record { row = row; session = session; is_row = r; is_session = s; meets = append_every (met (with row session)) others (f ∷ []) c (join (met (with row session) f) true q refl) })
       go false q = q
 
   pub covers_plain : Plain a.operator → (LiveClause sheet (others ++ (on a.variable is_null ∷ [])) → ⊥) → (LiveClause sheet (others ++ (turned a ∷ [])) → ⊥) → ClauseCovers sheet (a ∷ []) others
@@ -174,7 +174,7 @@ module _ (sheet : Sheet) (others : m.Clause) (a : m.Atom) where
       join (met e a) true
       (ap (λ (p : Operator). passes e p (e a.variable)) o
       ∙ equal_passes e u (e a.variable) (e u) refl (not_taken (on a.variable is_null) n row session r s c) (not_taken (on u is_null) k row session r s c)
-      (λ x. d record { row = row; session = session; is_row = r; is-session = s; meets = c; unlike = x }))
+      (λ x. d record { row = row; session = session; is_row = r; is_session = s; meets = c; unlike = x }))
       refl
 
 -- the same, of atoms by value

@@ -34,10 +34,10 @@ pub meets_told : (s top : List ℕ) (n k : ℕ) (r : Bool) → k ≡ n * 11 → 
 meets_told s top n k r ek l h held sheet a w g u =
     let d = answered held sheet (take k s) top a [] (one_clause (take k s) a (words_cut s k n ek l ∙ w)) g u tt r h in
     record {
-      yes = λ q. let b = d.yes q in record { row = b.row; session = b.one; is_row = b.is_row; is-session = b.is_one; meets = b.meets_a };
+      yes = λ q. let b = d.yes q in record { row = b.row; session = b.one; is_row = b.is_row; is_session = b.is_one; meets = b.meets_a };
       no = λ q x.
           d.no q
-          record { row = x.row; one = x.session; two = x.session; is_row = x.is_row; is_one = x.is_session; is-two = x.is_session; meets-a = x.meets; meets-b = refl; also = tt };
+          record { row = x.row; one = x.session; two = x.session; is_row = x.is_row; is_one = x.is_session; is_two = x.is_session; meets_a = x.meets; meets_b = refl; also = tt };
     }
 
 -- the same of rows with any columns
@@ -45,8 +45,8 @@ pub live_told : (words top : List ℕ) (k n : ℕ) (c : m.Clause) (r : Bool) →
 live_told words top k n c r e l w h sheet ranges u =
     let d = meets_told words top n k r e l h (every_column sheet) sheet c w ranges u in
     record {
-      yes = λ q. let b = d.yes q in record { row = b.row; session = b.session; is_row = b.is_row; is-session = b.is_session; meets = b.meets };
-      no = λ q x. d.no q record { row = x.row; session = x.session; is_row = x.is_row; is-session = x.is_session; meets = x.meets };
+      yes = λ q. let b = d.yes q in record { row = b.row; session = b.session; is_row = b.is_row; is_session = b.is_session; meets = b.meets };
+      no = λ q x. d.no q record { row = x.row; session = x.session; is_row = x.is_row; is_session = x.is_session; meets = x.meets };
     }
 
 pub differs_told : (words top : List ℕ) (k n u w : ℕ) (c : m.Clause) (r : Bool) → k ≡ n * 11 → k ≤ length words → word_atoms words n ≡ map (seen false) c → search.Apart (take k words) top (u % 32) (w % 32) r →
@@ -65,7 +65,7 @@ differs_told words top k n u w c r e l ws h sheet ranges us =
           let o = b.also in
           let at : (v i : ℕ) → v < 24 → slot_of false v ≡ i → with b.row b.one v ≡ three b.row b.one b.two i =
           (λ v i g z. sym (three_with b.row b.one b.two false v g) ∙ ap (three b.row b.one b.two) z) in
-          record { row = b.row; session = b.one; is_row = b.is_row; is-session = b.is_one; meets = b.meets_a; unlike = (o.0, o.1, at u (u % 32) nu iu ∙ o.2, at w (w % 32) nw jw ∙ o.3, o.4) };
+          record { row = b.row; session = b.one; is_row = b.is_row; is_session = b.is_one; meets = b.meets_a; unlike = (o.0, o.1, at u (u % 32) nu iu ∙ o.2, at w (w % 32) nw jw ∙ o.3, o.4) };
       no = λ q x.
           let o = x.unlike in
           let at : (v i : ℕ) → v < 24 → slot_of false v ≡ i → three x.row x.session x.session i ≡ with x.row x.session v =
@@ -77,9 +77,9 @@ differs_told words top k n u w c r e l ws h sheet ranges us =
             two = x.session;
             is_row = x.is_row;
             is_one = x.is_session;
-            is-two = x.is_session;
-            meets-a = x.meets;
-            meets-b = refl;
+            is_two = x.is_session;
+            meets_a = x.meets;
+            meets_b = refl;
             also = (o.0, o.1, at u (u % 32) nu iu ∙ o.2, at w (w % 32) nw jw ∙ o.3, o.4);
           };
     }

@@ -27,7 +27,7 @@ ranges kinds top h sheet g =
     record {
       columns = λ c l. at c c (get_or sheet.columns c integer) (omega arith) (place_first c (omega arith)) (g.columns c l);
       keys = λ k l. at (k + 16) (k + 16) (get_or sheet.keys k integer) (omega arith) (place_first (k + 16) (omega arith)) (g.keys k l);
-      keys-two = λ k l. at (k + 24) (k + 16) (get_or sheet.keys k integer) (omega arith) (place_second (k + 24) (omega arith) ∙ (let e : k + 24 - 8 ≡ k + 16 = omega arith in e)) (g.keys k l);
+      keys_two = λ k l. at (k + 24) (k + 16) (get_or sheet.keys k integer) (omega arith) (place_second (k + 24) (omega arith) ∙ (let e : k + 24 - 8 ≡ k + 16 = omega arith in e)) (g.keys k l);
     }
   where
     at : (v p : ℕ) (k : Kind) → v < 32 → kind_place v ≡ p → get_or kinds p 0 ≡ kind_number k → get_or top v 0 ≡ last k

@@ -214,9 +214,9 @@ module _ (held : ℕ → Bool) (sheet : Sheet) where
           two = keys_from d 24;
           is_row = row_holds d top ranges h.fits;
           is_one = one_session d top ranges h.fits;
-          is-two = two_session d top ranges h.fits;
-          meets-a = sym (use_of false (λ v. told (d v)) (with (row_of d) (keys_from d 16)) (λ v t. sym (there d false v t)) a ua) ∙ g.0;
-          meets-b = sym (use_of true (λ v. told (d v)) (with (row_of d) (keys_from d 24)) (λ v t. sym (there d true v t)) b ub) ∙ g.1;
+          is_two = two_session d top ranges h.fits;
+          meets_a = sym (use_of false (λ v. told (d v)) (with (row_of d) (keys_from d 16)) (λ v t. sym (there d false v t)) a ua) ∙ g.0;
+          meets_b = sym (use_of true (λ v. told (d v)) (with (row_of d) (keys_from d 24)) (λ v t. sym (there d true v t)) b ub) ∙ g.1;
           also = p;
         }
 
@@ -256,7 +256,7 @@ module _ (held : ℕ → Bool) (sheet : Sheet) where
                 let m = three z.row z.one z.two in
                 let n = z.also in
                 h (λ v. said (m v))
-                record { sat = both_sat (λ m. Unlike (m i) (m j)) z; p = n.0; q = n.1; holds-u = ap said n.2; holds-w = ap said n.3; differ = n.4 };
+                record { sat = both_sat (λ m. Unlike (m i) (m j)) z; p = n.0; q = n.1; holds_u = ap said n.2; holds_w = ap said n.3; differ = n.4 };
           }
 
       pub told_parted : (r : Bool) → Parts s top i j r → Decides (Both held sheet a b (λ m. m i ≡ m j → ⊥)) r

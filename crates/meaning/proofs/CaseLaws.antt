@@ -116,7 +116,7 @@ module _ (ps : List Policy) where
   no_session = session_is ps Null tt
 
   live_x : (c : Clause) (n : ℕ) → n ≤ last integer → clause_met (with (with_x n) nobody) c ≡ true → LiveClause (sheet_of ps) c
-  live_x c n h e = record { row = with_x n; session = nobody; is_row = x_row n h; is-session = no_session; meets = e }
+  live_x c n h e = record { row = with_x n; session = nobody; is_row = x_row n h; is_session = no_session; meets = e }
 
   -- what the row with x alone meets it must, where it is covered
   not_covered : (p q : Clause) (n : ℕ) → n ≤ last integer → clause_met (with (with_x n) nobody) q ≡ true → clause_met (with (with_x n) nobody) p ≡ false → ClauseCovers (sheet_of ps) p q → ⊥
@@ -129,14 +129,14 @@ in_lists =
     record {
       live = (on x (in_list (int 3 ∷ int 3 ∷ int 1 ∷ [])) ∷ on x (in_list (int 1 ∷ int 5 ∷ [])) ∷ []) ∷ [];
       tidy = (on x (in_list (int 1 ∷ [])) ∷ []) ∷ [];
-      step-1 = Keeps.kept (live_x (policies_at 3) _ (int 1) (lit≤ tt) refl) Keeps.done;
-      steps-2-5 = Each.one (Prunes.kept Prunes.done (not_covered (policies_at 3) (on x (in_list (int 1 ∷ [])) ∷ []) [] 0 (lit≤ tt) refl refl)) Each.none;
-      step-6 = Prunes.kept Prunes.done none_covers;
+      step_1 = Keeps.kept (live_x (policies_at 3) _ (int 1) (lit≤ tt) refl) Keeps.done;
+      steps_2_5 = Each.one (Prunes.kept Prunes.done (not_covered (policies_at 3) (on x (in_list (int 1 ∷ [])) ∷ []) [] 0 (lit≤ tt) refl refl)) Each.none;
+      step_6 = Prunes.kept Prunes.done none_covers;
     }
 
 -- a policy of one clause that nobody meets is left with none
 all_dropped : (sheet : Sheet) (c : Clause) → (LiveClause sheet c → ⊥) → NormalClauses sheet (c ∷ []) []
-all_dropped sheet c h = record { live = []; tidy = []; step-1 = Keeps.dropped h Keeps.done; steps-2-5 = Each.none; step-6 = Prunes.done }
+all_dropped sheet c h = record { live = []; tidy = []; step_1 = Keeps.dropped h Keeps.done; steps_2_5 = Each.none; step_6 = Prunes.done }
 
 -- what the clause wants of the content of one variable, no content of its kind gives
 never_above : (c : Content) → Fits integer c → (e : Contents) → (passes e (order is_above (int 9223372036854775807)) c && true) ≡ true → ⊥
@@ -183,14 +183,14 @@ first_stays =
     record {
       live = (on x (in_list (int 4 ∷ [])) ∷ []) ∷ (on x (order at_least (int 4)) ∷ on x (order at_most (int 4)) ∷ []) ∷ [];
       tidy = (on x (in_list (int 4 ∷ [])) ∷ []) ∷ range_4 ∷ [];
-      step-1 = Keeps.kept (live_x ps _ (int 4) (lit≤ tt) refl) (Keeps.kept (live_x ps _ (int 4) (lit≤ tt) refl) Keeps.done);
-      steps-2-5 =
+      step_1 = Keeps.kept (live_x ps _ (int 4) (lit≤ tt) refl) (Keeps.kept (live_x ps _ (int 4) (lit≤ tt) refl) Keeps.done);
+      steps_2_5 =
           Each.one (Prunes.kept Prunes.done (not_covered ps (on x (in_list (int 4 ∷ [])) ∷ []) [] 0 (lit≤ tt) refl refl))
           (Each.one
           (Prunes.kept (Prunes.kept Prunes.done (not_covered ps (on x (order at_least (int 4)) ∷ []) (on x (order at_most (int 4)) ∷ []) 0 (lit≤ tt) refl refl))
           (not_covered ps (on x (order at_most (int 4)) ∷ []) (on x (order at_least (int 4)) ∷ []) (int 5) (lit≤ tt) refl refl))
           Each.none);
-      step-6 = Prunes.kept (Prunes.dropped Prunes.done (One.here (λ row session r s m. exactly (row x) (with row session) (int 4) m))) none_covers;
+      step_6 = Prunes.kept (Prunes.dropped Prunes.done (One.here (λ row session r s m. exactly (row x) (with row session) (int 4) m))) none_covers;
     }
 
 -- Key 0 in [7] alone: isolated
@@ -232,16 +232,16 @@ t_in_list =
             one = tenant 0;
             two = nobody;
             is_row = f_t_row ps Null 7 tt (lit≤ tt);
-            is-session-one = of_tenant ps 0 (lit≤ tt);
-            is-session-two = no_session ps;
-            other-tenant = others 0;
-            a-there = lit< tt;
+            is_session_one = of_tenant ps 0 (lit≤ tt);
+            is_session_two = no_session ps;
+            other_tenant = others 0;
+            a_there = lit< tt;
             b_there = lit< tt;
-            meets-a = refl;
-            meets-b = refl;
+            meets_a = refl;
+            meets_b = refl;
           };
-      no-earlier-a = λ c d h l. omega arith;
-      no-earlier-b = λ d h l. omega arith;
+      no_earlier_a = λ c d h l. omega arith;
+      no_earlier_b = λ d h l. omega arith;
     }
 
 -- {t = key 0} in both sessions: one tenant
@@ -267,16 +267,16 @@ open_by_f =
             one = tenant 7;
             two = nobody;
             is_row = f_t_row ps (Value 1) 7 (lit≤ tt) (lit≤ tt);
-            is-session-one = of_tenant ps 7 (lit≤ tt);
-            is-session-two = no_session ps;
-            other-tenant = others 7;
-            a-there = lit< tt;
+            is_session_one = of_tenant ps 7 (lit≤ tt);
+            is_session_two = no_session ps;
+            other_tenant = others 7;
+            a_there = lit< tt;
             b_there = lit< tt;
-            meets-a = refl;
-            meets-b = refl;
+            meets_a = refl;
+            meets_b = refl;
           };
-      no-earlier-a = λ c d h l. omega arith;
-      no-earlier-b = first_pair (sheet_at 10) refl;
+      no_earlier_a = λ c d h l. omega arith;
+      no_earlier_b = first_pair (sheet_at 10) refl;
     }
 
 -- With a restrictive {t = key 0} besides: isolated
@@ -302,16 +302,16 @@ open_to_nobody =
             one = tenant 7;
             two = nobody;
             is_row = f_t_row ps Null 7 tt (lit≤ tt);
-            is-session-one = of_tenant ps 7 (lit≤ tt);
-            is-session-two = no_session ps;
-            other-tenant = others 7;
-            a-there = lit< tt;
+            is_session_one = of_tenant ps 7 (lit≤ tt);
+            is_session_two = no_session ps;
+            other_tenant = others 7;
+            a_there = lit< tt;
             b_there = lit< tt;
-            meets-a = refl;
-            meets-b = refl;
+            meets_a = refl;
+            meets_b = refl;
           };
-      no-earlier-a = λ c d h l. omega arith;
-      no-earlier-b = first_pair (sheet_at 12) refl;
+      no_earlier_a = λ c d h l. omega arith;
+      no_earlier_b = first_pair (sheet_at 12) refl;
     }
 
 -- The one theorem: each case's sheet is accepted, and the definitions give each answer.

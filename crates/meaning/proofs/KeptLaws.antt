@@ -295,8 +295,8 @@ normal_allowed sheet normal n h =
       keys = subst (λ z. (1 ≤ length z) × (length z ≤ 8)) (sym n.keys) h.keys;
       tables = subst (λ z. (1 ≤ length z) × (length z ≤ 16)) (sym n.tables) h.tables;
       policies = omega arith;
-      each-table = subst (λ z. All (TableAllowed (length z.columns)) z.tables) facts h.each_table;
-      each-policy = subst (λ z. All (PolicyAllowed z) normal.policies) facts (policies_allowed (facts_of sheet) sheet n.policies h.each_policy);
+      each_table = subst (λ z. All (TableAllowed (length z.columns)) z.tables) facts h.each_table;
+      each_policy = subst (λ z. All (PolicyAllowed z) normal.policies) facts (policies_allowed (facts_of sheet) sheet n.policies h.each_policy);
       serves = serves_stays sheet normal n h.serves;
       short = omega arith;
     }

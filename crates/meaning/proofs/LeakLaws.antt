@@ -23,8 +23,8 @@ module _ (sheet : Sheet) (t command : ℕ) where
   pub leak_not_isolated : (a b : ℕ) → Leak sheet t command a b → IsIsolated sheet t command → ⊥
   leak_not_isolated a b l isolated =
       isolated l.row l.one l.two
-      (record { is_row = l.is_row; is-session = l.is_session_one; admitted = branch_admits (with l.row l.one) a l.a_there l.meets_a })
-      (record { is_row = l.is_row; is-session = l.is_session_two; admitted = branch_admits (with l.row l.two) b l.b_there l.meets_b })
+      (record { is_row = l.is_row; is_session = l.is_session_one; admitted = branch_admits (with l.row l.one) a l.a_there l.meets_a })
+      (record { is_row = l.is_row; is_session = l.is_session_two; admitted = branch_admits (with l.row l.two) b l.b_there l.meets_b })
       l.other_tenant
 
   pub no_leak_isolated : ((a b : ℕ) → Leak sheet t command a b → ⊥) → IsIsolated sheet t command
@@ -37,13 +37,13 @@ module _ (sheet : Sheet) (t command : ℕ) where
         one = one;
         two = two;
         is_row = x.is_row;
-        is-session-one = x.is_session;
-        is-session-two = y.is_session;
-        other-tenant = other;
-        a-there = a.1;
+        is_session_one = x.is_session;
+        is_session_two = y.is_session;
+        other_tenant = other;
+        a_there = a.1;
         b_there = b.1;
-        meets-a = a.2;
-        meets-b = b.2;
+        meets_a = a.2;
+        meets_b = b.2;
       })
 
   pub isolated_exact : IsIsolated sheet t command ↔ ((a b : ℕ) → Leak sheet t command a b → ⊥)

@@ -78,7 +78,7 @@ module _ (s : List ℕ) (sheet : Sheet) (t command : ℕ) (session list out : Li
   kept_admitted : (rs : List Row) → All (λ r. IsRow sheet t r.columns) rs →
       All (λ r. (admits sheet t command (with r.columns key) ≡ true → Admitted sheet t command r.columns key) × (Admitted sheet t command r.columns key → admits sheet t command (with r.columns key) ≡ true)) rs
   kept_admitted [] h = tt
-  kept_admitted (r ∷ rs) h = ((λ e. record { is_row = h.0; is-session = read_session_holds sheet session key q is-session; admitted = e }, λ a. a.admitted), kept_admitted rs h.1)
+  kept_admitted (r ∷ rs) h = ((λ e. record { is_row = h.0; is_session = read_session_holds sheet session key q is-session; admitted = e }, λ a. a.admitted), kept_admitted rs h.1)
 
   -- Demand 2: "Listing hands out the admitted rows, in order, and no others."
   pub listing_exact : (after : List ℕ) (n k : ℕ) → ListingReply s t command session list out (Rows n k) after →
@@ -91,7 +91,7 @@ module _ (s : List ℕ) (sheet : Sheet) (t command : ℕ) (session list out : Li
   unseen : IsIsolated sheet t command → (rs : List Row) → All (λ r. IsRow sheet t r.columns) rs → All (λ r. admits sheet t command (with r.columns key) ≡ true → OthersSee sheet t command key r → ⊥) rs
   unseen isolated [] h = tt
   unseen isolated (r ∷ rs) h =
-      (λ e o. isolated r.columns key o.0 (record { is_row = h.0; is-session = read_session_holds sheet session key q is-session; admitted = e }) o.2 o.1, unseen isolated rs h.1)
+      (λ e o. isolated r.columns key o.0 (record { is_row = h.0; is_session = read_session_holds sheet session key q is-session; admitted = e }) o.2 o.1, unseen isolated rs h.1)
 
   pub kept_struck : IsIsolated sheet t command → (struck : List Row) → Keeps (λ r. OthersSee sheet t command key r → ⊥) rows struck → kept ≡ keep (λ r. admits sheet t command (with r.columns key)) struck
   kept_struck isolated struck h = keep_struck (λ r. admits sheet t command (with r.columns key)) (λ r. OthersSee sheet t command key r → ⊥) h (unseen isolated rows all_rows)

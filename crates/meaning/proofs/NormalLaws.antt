@@ -61,7 +61,7 @@ module _ (sheet : Sheet) where
         prunes_any (clause_met e) (λ c others. One (λ d. ClauseCovers sheet d c) others) one_any n.step_6
         ∙ sort_any (clause_met e) (clause_before (kind_of sheet)) n.tidy
         ∙ each_met (keeps_all n.step_1) n.steps_2_5
-        ∙ keeps_any (clause_met e) (LiveClause sheet) (λ c m. record { row = row; session = session; is_row = r; is-session = s; meets = m }) n.step_1
+        ∙ keeps_any (clause_met e) (LiveClause sheet) (λ c m. record { row = row; session = session; is_row = r; is_session = s; meets = m }) n.step_1
 
     -- the policies of the normal sheet that a test chooses, against those of the sheet
     module _ (f g : Policy → Bool) (same : (p q : Policy) → NormalPolicy sheet p q → g q ≡ f p) where

@@ -156,7 +156,7 @@ accepted_as s sheet a =
     let f : FieldsAllowed sheet × Filled s (sheet_bits sheet) = fields_to s sheet y.1 (subst (λ u. sheet_fields s u ≡ found sheet y.1) o (y.2 ∙ ap (λ u. found u y.1) e)) in
     let n : length (packed sheet) ≡ length s = packed_length sheet ∙ sym f.1.size in
     record {
-      allowed = record { columns = f.0.0.0; keys = f.0.0.1; tables = f.0.0.2; policies = f.0.0.3; each-table = f.0.1; each-policy = f.0.2; serves = t; short = omega arith };
+      allowed = record { columns = f.0.0.0; keys = f.0.0.1; tables = f.0.0.2; policies = f.0.0.3; each_table = f.0.1; each_policy = f.0.2; serves = t; short = omega arith };
       as_long = n;
       same = bytes_are s sheet f.1;
     }

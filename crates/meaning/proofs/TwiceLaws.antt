@@ -21,7 +21,7 @@ use Rattle.meaning.proofs.AgainLaws.{tidied_same}
 -- the normal form of a live clause is live
 pub normal_live : (sheet : Sheet) (c d : Clause) → LiveClause sheet c → NormalClause sheet c d → LiveClause sheet d
 normal_live sheet c d l n =
-    record { row = l.row; session = l.session; is_row = l.is_row; is-session = l.is_session; meets = clause_met_lem sheet l.row l.session l.is_row l.is_session c d l n ∙ l.meets }
+    record { row = l.row; session = l.session; is_row = l.is_row; is_session = l.is_session; meets = clause_met_lem sheet l.row l.session l.is_row l.is_session c d l n ∙ l.meets }
 
 -- a sheet, and its normal form, which has the same columns and keys
 module _ (sheet normal : Sheet) (columns : normal.columns ≡ sheet.columns) (keys : normal.keys ≡ sheet.keys) where
@@ -41,7 +41,7 @@ module _ (sheet normal : Sheet) (columns : normal.columns ≡ sheet.columns) (ke
   session_back session s = subst (λ t. t) (sym (same_sessions session)) s
 
   live_back : (c : Clause) → LiveClause sheet c → LiveClause normal c
-  live_back c l = record { row = l.row; session = l.session; is_row = row_back l.row l.is_row; is-session = session_back l.session l.is_session; meets = l.meets }
+  live_back c l = record { row = l.row; session = l.session; is_row = row_back l.row l.is_row; is_session = session_back l.session l.is_session; meets = l.meets }
 
   covers_on : (p q : Clause) → ClauseCovers normal p q → ClauseCovers sheet p q
   covers_on p q h row session r s m = h row session (row_back row r) (session_back session s) m

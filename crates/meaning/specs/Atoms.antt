@@ -7,7 +7,7 @@ use Rattle.meaning.specs.Values.{Contents}
 
 -- "3 at most, 4 at least, 5 below, 6 above (one value)"
 pub data Order : Type 0 where
-  test_at_most at_least is_below is_above : Order
+  at_most at_least is_below is_above : Order
 
 -- "Operators: 0 equals a variable; 1 in list; 2 not in list; 3 ..; 7 is null; 8 is not null."
 pub data Operator : Type 0 where
@@ -30,7 +30,7 @@ abbrev pub among : ℕ → List ℕ → Bool
 among n ns = any (eqb n) ns
 
 abbrev pub in_order : Order → ℕ → ℕ → Bool
-in_order test_at_most n m = leb n m
+in_order at_most n m = leb n m
 in_order at_least n m = leb m n
 in_order is_below n m = ltb n m
 in_order is_above n m = ltb m n

@@ -3,6 +3,7 @@
 // 01. proofs/ has the laws that show the definitions to be right, and the mathematics of the customer's demands. The code is what every crate
 // above needs of one atom: is it met by what its variables hold?
 #![tactic(auto)]
+
 ghost use Rattle.std.specs.Prelude.{◌≡◌, take};
 ghost use Rattle.meaning.specs.Values.{Contents};
 ghost use Rattle.meaning.specs.Atoms as atoms;

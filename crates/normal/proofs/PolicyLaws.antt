@@ -48,7 +48,7 @@ policy_written sheet p o bs s at ds n w = record {
 
 module _ (sheet : Sheet) (o bs : List ℕ) where
   pub no_policies : (s : List ℕ) (p : ℕ) → Wrote o bs s p → PoliciesWritten sheet 0 o bs s p
-  no_policies s p w = record { normals = []; are-normal = Each.none; wrote = subst (λ (x : List ℕ). Wrote o x s p) (sym (append-nil bs)) w }
+  no_policies s p w = record { normals = []; are_normal = Each.none; wrote = subst (λ (x : List ℕ). Wrote o x s p) (sym (append-nil bs)) w }
 
   -- n policies are written, up to the bits that s holds, and then one more
   pub one_policy : (n : ℕ) (s t : List ℕ) (p q : ℕ) → n < length sheet.policies → (done : PoliciesWritten sheet n o bs s p)
@@ -59,7 +59,7 @@ module _ (sheet : Sheet) (o bs : List ℕ) where
       rw add-one (take-suc sheet.policies n (record { restrictive = false; commands = 0; selector = all; clauses = [] }) h) in
       record {
         normals = done.normals ++ (one.normal ∷ []);
-        are-normal = subst (λ (ps : List Policy). Each (NormalPolicy sheet) ps (done.normals ++ (one.normal ∷ []))) (sym e) (each_more (policy_at sheet n) one.normal one.is_normal done.are_normal);
+        are_normal = subst (λ (ps : List Policy). Each (NormalPolicy sheet) ps (done.normals ++ (one.normal ∷ []))) (sym e) (each_more (policy_at sheet n) one.normal one.is_normal done.are_normal);
         wrote = subst (λ (x : List ℕ). Wrote o x t q)
             (append_assoc bs (each code done.normals) (code one.normal)
             ∙ ap (λ (x : List ℕ). bs ++ x) (ap (λ (x : List ℕ). each code done.normals ++ x) (sym (append-nil (code one.normal))) ∙ sym (each_append code done.normals (one.normal ∷ []))))

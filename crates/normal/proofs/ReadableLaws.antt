@@ -81,7 +81,7 @@ readable s sheet d b top h a n r i l =
     let m : length s ≤ 16384 = subst (λ (z : ℕ). z ≤ 16384) acc.as_long acc.allowed.short in
     record {
       short = m;
-      known = record { kinds-are = kinds_known sheet d.facts.kinds h.facts.kinds n acc.allowed.keys.1; ranges = r };
+      known = record { kinds_are = kinds_known sheet d.facts.kinds h.facts.kinds n acc.allowed.keys.1; ranges = r };
       facts = h.facts;
       there = numbered_policy h i l;
       at = h.policy i l;

@@ -79,7 +79,7 @@ module _ (s top : List ℕ) (u w : ℕ) (lu : u < 32) (lw : w < 32) (bound : (v 
   pub rises_yes : (floor : List ℕ) (r : Solved) → Solves s top both floor r → r.ok ≡ true → get_or r.x u 0 < get_or r.x w 0 → Lesser s top u w true
   rises_yes floor r h ok l = (
     contents r.need r.x,
-    record { sat = h.sat ok; p = get_or r.x u 0; q = get_or r.x w 0; holds-u = there floor r h ok u lu both_u; holds-w = there floor r h ok w lw both_w; less = l },
+    record { sat = h.sat ok; p = get_or r.x u 0; q = get_or r.x w 0; holds_u = there floor r h ok u lu both_u; holds_w = there floor r h ok w lw both_w; less = l },
   )
 
   pub lesser_none : (low : Solved) → Solves s top both zeros low → low.ok ≡ false → Lesser s top u w false

@@ -20,12 +20,12 @@ pub apart_yes : (s top : List ℕ) (u w : ℕ) {b : Bool} → b ≡ true → Les
 apart_yes s top u w d h =
     let g : Lesser s top u w true = subst (λ (b : Bool). Lesser s top u w b) d h in
     let o = g.1 in
-    (g.0, record { sat = o.sat; p = o.p; q = o.q; holds-u = o.holds_u; holds-w = o.holds_w; differ = let l = o.less in λ e. omega arith })
+    (g.0, record { sat = o.sat; p = o.p; q = o.q; holds_u = o.holds_u; holds_w = o.holds_w; differ = let l = o.less in λ e. omega arith })
 
 pub apart_back : (s top : List ℕ) (u w : ℕ) → Apart s top w u true → Apart s top u w true
 apart_back s top u w h =
     let o = h.1 in
-    (h.0, record { sat = o.sat; p = o.q; q = o.p; holds-u = o.holds_w; holds-w = o.holds_u; differ = λ e. o.differ (sym e) })
+    (h.0, record { sat = o.sat; p = o.q; q = o.p; holds_u = o.holds_w; holds_w = o.holds_u; differ = λ e. o.differ (sym e) })
 
 pub apart_no : (s top : List ℕ) (u w : ℕ) {a b : Bool} → a ≡ false → Lesser s top u w a → b ≡ false → Lesser s top w u b → Apart s top u w false
 apart_no s top u w ea ha eb hb e o =
@@ -34,10 +34,10 @@ apart_no s top u w ea ha eb hb e o =
     go f g (dec_lt o.p o.q)
   where
     go : Lesser s top u w false → Lesser s top w u false → Dec (o.p < o.q) → ⊥
-    go f g (yes l) = f e (record { sat = o.sat; p = o.p; q = o.q; holds-u = o.holds_u; holds-w = o.holds_w; less = l })
+    go f g (yes l) = f e (record { sat = o.sat; p = o.p; q = o.q; holds_u = o.holds_u; holds_w = o.holds_w; less = l })
     go f g (no l) =
         let ne = o.differ in
-        g e (record { sat = o.sat; p = o.q; q = o.p; holds-u = o.holds_w; holds-w = o.holds_u; less = omega arith })
+        g e (record { sat = o.sat; p = o.q; q = o.p; holds_u = o.holds_w; holds_w = o.holds_u; less = omega arith })
 
 -- the least solution with u and w not null
 
@@ -99,8 +99,8 @@ module _ (s top : List ℕ) (u w : ℕ) (lu : u < 32) (lw : w < 32) (low : Solve
         sat = lo.solves.sat lo.ok;
         p = get_or low.x u 0;
         q = get_or low.x w 0;
-        holds-u = holds u lu (pair_u s top u w lu lw);
-        holds-w = holds w lw (pair_w s top u w lu lw);
+        holds_u = holds u lu (pair_u s top u w lu lw);
+        holds_w = holds w lw (pair_w s top u w lu lw);
         differ = λ e. ne (sym ea ∙ e ∙ eb);
       },
     )
@@ -171,7 +171,7 @@ module _ (s top : List ℕ) (u w : ℕ) where
       go null null p q = ne (p ∙ sym q)
       go null (value n) p q = f e m p (λ z. let i : ◌≡◌ {A = ℕ} 0 1 = cc in omega arith)
       go (value n) null p q = g e m q (λ z. let i : ◌≡◌ {A = ℕ} 0 1 = cc in omega arith)
-      go (value k) (value n) p q = h e (record { sat = m; p = k; q = n; holds-u = p; holds-w = q; differ = λ z. ne (p ∙ ap value z ∙ sym q) })
+      go (value k) (value n) p q = h e (record { sat = m; p = k; q = n; holds_u = p; holds_w = q; differ = λ z. ne (p ∙ ap value z ∙ sym q) })
 
   pub parts_no : {a b c : Bool} → a ≡ false → NullBeside s top u w a → b ≡ false → NullBeside s top w u b → c ≡ false → Apart s top u w c → Parts s top u w false
   parts_no ea f eb g ec h =

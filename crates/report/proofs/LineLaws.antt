@@ -70,7 +70,7 @@ line_told s t command {b} {m} {n} {a} {at} {k} {j} {r} h f e sheet acc there kno
           record {
             rest = w.text;
             verdicts = w.says;
-            text-is =
+            text_is =
                 append_assoc (decimal t) (ascii " " ++ (letter_of command ∷ ascii " ")) (w.text ++ (10 ∷ []));
           };
     }
@@ -80,7 +80,7 @@ joined [] l = append-nil l
 joined (x ∷ ls) l = ap (λ y. x ++ y) (joined ls l) ∙ sym (append_assoc x (each (λ y. y) ls) l)
 
 pub lines_none : (sheet : Sheet) → FirstLines sheet 0 []
-lines_none sheet = record { lines = []; each_line = Each.none; text-is = refl }
+lines_none sheet = record { lines = []; each_line = Each.none; text_is = refl }
 
 pub lines_more : (sheet : Sheet) (n : ℕ) (text line : List ℕ) → FirstLines sheet n text → Line sheet (n / 4) (n % 4) line → FirstLines sheet (n + 1) (text ++ line)
 lines_more sheet n text line f l =
@@ -90,7 +90,7 @@ lines_more sheet n text line f l =
           subst (λ ks. Each (λ k x. Line sheet (k / 4) (k % 4) x) ks (f.lines ++ (line ∷ [])))
           (sym (numbers_more n))
           (each_more _ _ l f.each_line);
-      text-is = ap (λ x. x ++ line) f.text_is ∙ sym (joined f.lines line);
+      text_is = ap (λ x. x ++ line) f.text_is ∙ sym (joined f.lines line);
     }
 
 -- one line more
@@ -122,4 +122,4 @@ out_told s d tables {book} {b} {m} {a} {k} {r} f same w ls =
     ap (λ z. opening_text d.facts.tables d.policies ++ z) l.says.text_is ∙ ap (λ z. opening_text z d.policies ++ each (λ y. y) l.says.lines) T ∙ ap (λ z. opening_text (length x.tables) z ++ each (λ y. y) l.says.lines) P
     ∙ simp append_assoc in
     subst (λ z. Printed z (take r a)) (sym f.read)
-    (record { lines = l.says.lines; each_line = subst (λ n. Each (λ i y. Line x (i / 4) (i % 4) y) (numbers_from 0 n) l.says.lines) t l.says.each_line; text-is = all.front ∙ parts })
+    (record { lines = l.says.lines; each_line = subst (λ n. Each (λ i y. Line x (i / 4) (i % 4) y) (numbers_from 0 n) l.says.lines) t l.says.each_line; text_is = all.front ∙ parts })

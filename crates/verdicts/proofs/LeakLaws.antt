@@ -37,13 +37,13 @@ module _ (sheet : Sheet) (t command : ℕ) where
         one = l.two;
         two = l.one;
         is_row = l.is_row;
-        is-session-one = l.is_session_two;
-        is-session-two = l.is_session_one;
-        other-tenant = λ e. l.other_tenant (sym e);
-        a-there = l.b_there;
+        is_session_one = l.is_session_two;
+        is_session_two = l.is_session_one;
+        other_tenant = λ e. l.other_tenant (sym e);
+        a_there = l.b_there;
         b_there = l.a_there;
-        meets-a = l.meets_b;
-        meets-b = l.meets_a;
+        meets_a = l.meets_b;
+        meets_b = l.meets_a;
       }
 
   pub both_leak : (a b : ℕ) → a < branch_count sheet t command → b < branch_count sheet t command → OtherMeets sheet t (branch_at sheet t command a) (branch_at sheet t command b) → Leak sheet t command a b
@@ -53,13 +53,13 @@ module _ (sheet : Sheet) (t command : ℕ) where
         one = x.one;
         two = x.two;
         is_row = x.is_row;
-        is-session-one = x.is_one;
-        is-session-two = x.is_two;
-        other-tenant = x.also;
-        a-there = there a la;
+        is_session_one = x.is_one;
+        is_session_two = x.is_two;
+        other_tenant = x.also;
+        a_there = there a la;
         b_there = there b lb;
-        meets-a = x.meets_a;
-        meets-b = x.meets_b;
+        meets_a = x.meets_a;
+        meets_b = x.meets_b;
       }
 
   pub leak_both : (a b : ℕ) → Leak sheet t command a b → OtherMeets sheet t (branch_at sheet t command a) (branch_at sheet t command b)
@@ -70,24 +70,24 @@ module _ (sheet : Sheet) (t command : ℕ) where
         two = l.two;
         is_row = l.is_row;
         is_one = l.is_session_one;
-        is-two = l.is_session_two;
-        meets-a = l.meets_a;
-        meets-b = l.meets_b;
+        is_two = l.is_session_two;
+        meets_a = l.meets_a;
+        meets_b = l.meets_b;
         also = l.other_tenant;
       }
 
   -- a branch of a leaking pair is met
   pub leak_met : (a b : ℕ) → Leak sheet t command a b → Meets (held_by sheet t) sheet (branch_at sheet t command a)
-  leak_met a b l = record { row = l.row; session = l.one; is_row = l.is_row; is-session = l.is_session_one; meets = l.meets_a }
+  leak_met a b l = record { row = l.row; session = l.one; is_row = l.is_row; is_session = l.is_session_one; meets = l.meets_a }
 
   -- a live branch is a live table
   pub live_by : (k : ℕ) → k < branch_count sheet t command → Meets (held_by sheet t) sheet (branch_at sheet t command k) → IsLive sheet t command
-  live_by k l m = (m.row, m.session, record { is_row = m.is_row; is-session = m.is_session; admitted = branch_admits sheet t command (with m.row m.session) k (there k l) m.meets })
+  live_by k l m = (m.row, m.session, record { is_row = m.is_row; is_session = m.is_session; admitted = branch_admits sheet t command (with m.row m.session) k (there k l) m.meets })
 
   pub none_live : ((k : ℕ) → k < branch_count sheet t command → Meets (held_by sheet t) sheet (branch_at sheet t command k) → ⊥) → IsLive sheet t command → ⊥
   none_live h x =
       let a = admitted_branch sheet t command (with x.0 x.1) x.2.admitted in
-      h a.0 (counted a.0 a.1) (record { row = x.0; session = x.1; is_row = x.2.is_row; is-session = x.2.is_session; meets = a.2 })
+      h a.0 (counted a.0 a.1) (record { row = x.0; session = x.1; is_row = x.2.is_row; is_session = x.2.is_session; meets = a.2 })
 
   -- no pair (c, d) with c at most d before (a, b) leaks
   pub record Quiet (a b : ℕ) : Type 0 where
@@ -111,7 +111,7 @@ module _ (sheet : Sheet) (t command : ℕ) where
 
   -- "A leak is named by the first pair"
   pub leak_first : (a b : ℕ) → Quiet a b → Leak sheet t command a b → FirstLeak sheet t command a b
-  leak_first a b q k = record { leak = k; no-earlier-a = λ c d l. quiet_before a b c d q l; no-earlier-b = λ d l. quiet_here a b d q l }
+  leak_first a b q k = record { leak = k; no_earlier_a = λ c d l. quiet_before a b c d q l; no_earlier_b = λ d l. quiet_here a b d q l }
 
   quiet_next : (a b : ℕ) → Quiet a b → (Leak sheet t command a b → ⊥) → Quiet a (b + 1)
   quiet_next a b q ne = record { earlier = q.earlier; here = λ d g l k. go d g l k (ℕ_discrete d b) }
