@@ -19,7 +19,7 @@ use Rattle.meaning.specs.Packed.{sheet_bits, packed}
 use Rattle.meaning.specs.Reading.{read_sheet, field, count, kind, table, number_below, selector_node, selector, variable, value, values, mate, operand, atom, clause, policy, padding, nothing_more, counts, table_facts, sheet_fields}
 use Rattle.meaning.specs.Questions.{IsRow, IsSession, IsAnyRow, Leak, LiveClause, ClauseCovers}
 use Rattle.meaning.specs.Steps.{on, tidied, NormalClauses}
-use Rattle.meaning.specs.Cases.{null_x_hidden, none_admitted, becomes, verdict, x, f, t, key_0, int, one, t_is_key_0, sheet_of, Says, marked_cases, MarkedCases}
+use Rattle.meaning.specs.Cases.{null_x_hidden, none_admitted, becomes, verdict, x, f, t, key_0, int, t_is_key_0, sheet_of, Says, marked_cases, MarkedCases}
 
 -- contents written as a list, the first for number 0
 abbrev listed : List Content → Contents

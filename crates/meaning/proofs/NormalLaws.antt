@@ -53,6 +53,7 @@ module _ (sheet : Sheet) where
     keeps_all (Keeps.dropped p k) = keeps_all k
 
     one_any : (c : Clause) (others : List Clause) → One (λ d. ClauseCovers sheet d c) others → clause_met e c ≡ true → any (clause_met e) others ≡ true
+    one_any c [] o m = elim o [ ]
     one_any c (d ∷ others) (One.here h) m = ap (λ z. z || any (clause_met e) others) (h row session r s m)
     one_any c (d ∷ others) (One.later o) m = ap (λ z. clause_met e d || z) (one_any c others o m) ∙ or-true (clause_met e d)
 

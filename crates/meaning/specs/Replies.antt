@@ -1,5 +1,5 @@
 -- What each public call replies, and what its output holds then, for every input. (01, "Refusal numbers")
-use Rattle.std.specs.Prelude.{ℕ, ◌+◌, ◌≡◌, Bool, cond, ◌&&◌, List, [], ◌∷◌, ◌++◌, length, drop, ltb, leb}
+use Rattle.std.specs.Prelude.{ℕ, ◌≡◌, Bool, cond, ◌&&◌, List, [], ◌∷◌, ◌++◌, length, drop, ltb, leb}
 use Rattle.meaning.specs.declared.Listed.{Listed}
 use Rattle.meaning.specs.declared.Listed.TheVariants.{Rows}
 use Rattle.meaning.specs.declared.Written.{Written}
