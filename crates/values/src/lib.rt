@@ -3,6 +3,7 @@
 // and rows all read their values here. Stands on bits and meaning; specs/Reads.antt says how an answer of the code stands for what the
 // definitions read.
 #![tactic(auto)]
+
 ghost use Rattle.std.specs.Prelude.{◌≡◌, ℕ};
 ghost use Rattle.bits.specs.Fields.{place_at};
 ghost use Rattle.meaning.specs.Values.{Kind, kind_number, last, raw};
