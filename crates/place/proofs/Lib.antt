@@ -1,6 +1,4 @@
 pub mod PlaceLaws
 pub mod HeadLaws
 pub mod AtomHeadLaws
-pub mod Thin
-pub mod Lending
 pub mod Vectors

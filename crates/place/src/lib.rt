@@ -3,6 +3,7 @@
 // (01, "The packed sheet"): `next_field` and `next_count` take the lent place apart, call a covered function on the slice and numbers, and
 // store the place that it answers; a refusal leaves the place unmoved. All judging is in covered functions. Stands on bits, meaning, values.
 #![tactic(auto)]
+
 ghost use Rattle.std.specs.Prelude.{◌≡◌, ℕ, length, get_or};
 ghost use Rattle.bits.specs.Fields.{place_at, field_at};
 ghost use Rattle.meaning.specs.Sheets.{Sheet};
@@ -14,28 +15,28 @@ ghost use Rattle.place.specs.Heads.{width_of, low_of, high_of, count_at, refusal
 use bits::{Field, Place, field_at};
 
 // What a thin reader answers: the field's value, or a refusal number.
-#[derive(Drop)]
+#[derive(Clone, Copy)]
 pub enum Taken {
     Value(u64),
     Refused(u32),
 }
 
 // What one field read gives: the answer, and the place after it. A refusal leaves the place unmoved.
-#[derive(Drop)]
+#[derive(Clone, Copy)]
 pub struct Step {
     pub taken: Taken,
     pub next: Place,
 }
 
 // The counts that a sheet begins with (columns, keys, tables, policies), and the place after them.
-#[derive(Drop)]
+#[derive(Clone, Copy)]
 pub enum SheetHead {
     Counts(u64, u64, u64, u64, Place),
     Refused(u32),
 }
 
 // The two fields that an atom begins with, as they are read, and the place after them.
-#[derive(Drop)]
+#[derive(Clone, Copy)]
 pub struct AtomFields {
     pub variable: Taken,
     pub operator: Taken,
@@ -43,7 +44,7 @@ pub struct AtomFields {
 }
 
 // An atom's variable and operator, judged, and the place after them.
-#[derive(Drop)]
+#[derive(Clone, Copy)]
 pub enum AtomHead {
     Head(u64, u64, Place),
     Refused(u32),
