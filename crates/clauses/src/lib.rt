@@ -15,7 +15,7 @@ pub use clause::{clause_at, clause_held};
 pub use fields::is_member;
 
 // How many columns, keys and tables there are, and the kinds of columns (from 0) and keys (from 16), by number.
-#[derive(Drop)]
+#[derive(Clone, Copy)]
 pub struct Facts {
     pub columns: u64,
     pub keys: u64,
@@ -24,34 +24,34 @@ pub struct Facts {
 }
 
 // Where a reading ends: the place after it, or its refusal.
-#[derive(Drop)]
+#[derive(Clone, Copy)]
 pub enum End {
     At(Place),
     Refused(u32),
 }
 
 // The values of a list.
-#[derive(Drop)]
+#[derive(Clone, Copy)]
 pub struct Values {
     pub end: End,
     pub count: usize,
     pub values: [u64; 8],
 }
 
-#[derive(Drop)]
+#[derive(Clone, Copy)]
 pub struct AtomRead {
     pub end: End,
     pub atom: Atom,
 }
 
-#[derive(Drop)]
+#[derive(Clone, Copy)]
 pub struct ClauseRead {
     pub end: End,
     pub clause: Clause,
 }
 
 // Atoms read: does a set hold every column that they use?
-#[derive(Drop)]
+#[derive(Clone, Copy)]
 pub struct Held {
     pub end: End,
     pub held: bool,

@@ -11,14 +11,14 @@ ghost use Rattle.meaning.specs.Atoms.{among, is_value, passes, met};
 ghost use Rattle.meaning.specs.Views.{atom_of, value_passes};
 
 // "It holds null or a value of its kind": a value is its order code (specs/Values.antt).
-#[derive(Drop)]
+#[derive(Clone, Copy)]
 pub enum Content {
     Null,
     Value(u64),
 }
 
 // An atom by value. `other` is an equality's second variable; a list is the first `count` of `values`; a bound is the first of `values`.
-#[derive(Drop)]
+#[derive(Clone, Copy)]
 pub struct Atom {
     pub variable: u64,
     pub operator: u64,
@@ -28,47 +28,47 @@ pub struct Atom {
 }
 
 // A clause by value: the first `count` of `atoms`.
-#[derive(Drop)]
+#[derive(Clone, Copy)]
 pub struct Clause {
     pub count: usize,
     pub atoms: [Atom; 8],
 }
 
 // The replies of the public calls. A refusal carries its number.
-#[derive(Drop)]
+#[derive(Clone, Copy)]
 pub enum Listed {
     Rows { length: usize, count: usize },
     Refused(u32),
 }
 
-#[derive(Drop)]
+#[derive(Clone, Copy)]
 pub enum Written {
     Length(usize),
     Refused(u32),
 }
 
-#[derive(Drop)]
+#[derive(Clone, Copy)]
 pub enum Life {
     Live,
     Dead,
     Refused(u32),
 }
 
-#[derive(Drop)]
+#[derive(Clone, Copy)]
 pub enum Isolation {
     Isolated,
     Leaks(u32, u32),
     Refused(u32),
 }
 
-#[derive(Drop)]
+#[derive(Clone, Copy)]
 pub enum Cover {
     Covers,
     Misses,
     Refused(u32),
 }
 
-#[derive(Drop)]
+#[derive(Clone, Copy)]
 pub enum BranchCount {
     Branches(u64),
     Refused(u32),
