@@ -1,3 +1,4 @@
+use native.Mathlib.Omega.{arith}
 use Rattle.asked.proofs.TurnLaws.{turned_at, turned_rest}
 use Rattle.asked.proofs.turned_operator.Goals as goal
 
@@ -23,5 +24,4 @@ pub returns-in-7 : goal.returns-in-7
 returns-in-7 c = turned_at _ 7 c.in-7.is
 
 pub returns-in_default : goal.returns-in_default
-returns-in_default c = let r = c.in_default.in_default-own.rest in
-    turned_rest _ r.0.0.0.0.0.0.1 r.0.0.0.0.0.1 r.0.0.0.0.1 r.0.0.0.1 r.0.0.1 r.0.1 r.1
+returns-in_default c = turned_rest c.args.op (omega arith) (omega arith) (omega arith) (omega arith) (omega arith) (omega arith) (omega arith)

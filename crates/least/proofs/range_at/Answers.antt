@@ -19,4 +19,4 @@ pub returns-in-7 : goal.returns-in-7
 returns-in-7 c = bounds c.args.s.now c.args.i 7 _ _ c.in-7.is (record { under = λ n h. absurd h; over = λ n l h. absurd h; whole = λ a b n l h. absurd (let q : ⊥ = omega arith in q) })
 
 pub returns-in_default : goal.returns-in_default
-returns-in_default c = let r = c.in_default.in_default-own.rest in bounds_rest c.args.s.now c.args.i r.0.0.0.0.1 r.0.0.0.1 r.0.0.1 r.0.1 r.1
+returns-in_default c = bounds_rest c.args.s.now c.args.i (omega arith) (omega arith) (omega arith) (omega arith) (omega arith)
