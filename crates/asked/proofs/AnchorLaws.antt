@@ -2,7 +2,7 @@
 use Prim.Native.Nat.{ℕ, zero, suc, ◌+◌, ◌*◌, ◌%◌, ◌<◌, ◌≤◌}
 use native.Mathlib.Omega.{arith}
 use native.Mathlib.Decide.{dec_lt}
-use mathlib.Core.Path.{◌≡◌, refl, sym, ap, ◌∙◌}
+use mathlib.Core.Path.{◌≡◌, sym, ap, ◌∙◌}
 use mathlib.Core.Bool.{Bool, true, false, cond, ◌&&◌}
 use mathlib.Core.List.{List, [], ◌∷◌, map}
 use lib.ListN.{get_or}
@@ -11,7 +11,7 @@ use Rattle.lists.proofs.BoolLaws.{both, every_append}
 use Rattle.meaning.specs.Values.{Contents, with}
 use Rattle.meaning.specs.Atoms.{Clause, equals, passes, met, clause_met}
 use Rattle.meaning.specs.Sheets.{Sheet}
-use Rattle.meaning.specs.Views.{operator_of, test_of}
+use Rattle.meaning.specs.Views.{test_of}
 use Rattle.meaning.proofs.CaseLaws.{equal_is}
 use Rattle.asked.specs.Words.{numbers_at, word_atom, word_atoms, seen}
 use Rattle.asked.specs.Asked.{Uses, three, Anchors}

@@ -7,7 +7,6 @@ use mathlib.Core.Bool.{Bool, true, false}
 use mathlib.Core.List.{List, [], ◌∷◌, ◌++◌, map, map-append}
 use lib.ListN.{length, get_or, take}
 use lib.Seq.{take-suc}
-use Rattle.words.specs.Meaning.{atoms}
 use Rattle.lists.specs.Lists.{All}
 use Rattle.meaning.specs.Values.{Contents, with}
 use Rattle.meaning.specs.Atoms as m

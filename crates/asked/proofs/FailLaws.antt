@@ -16,7 +16,6 @@ use Rattle.meaning.specs.Steps.{on}
 use Rattle.meaning.specs.Sheets.{Sheet}
 use Rattle.meaning.specs.Questions.{IsAnyRow, IsSession, ClauseCovers, LiveClause}
 use Rattle.meaning.specs.declared.Atom.{Atom}
-use Rattle.meaning.specs.declared.Clause.{Clause}
 use Rattle.meaning.specs.Views.{test_of, operator_of, atom_of}
 use Rattle.asked.specs.Asked.{Unlike, Differs, turned_order, turned_by, turned}
 use Rattle.lists.proofs.BoolLaws.{both, join}

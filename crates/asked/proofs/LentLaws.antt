@@ -13,8 +13,6 @@ use Rattle.meaning.specs.Atoms as m
 use Rattle.meaning.specs.Atoms.{equals, clause_met}
 use Rattle.meaning.specs.Steps.{on}
 use Rattle.meaning.specs.Questions.{LiveClause}
-use Rattle.meaning.specs.declared.Atom.{Atom}
-use Rattle.meaning.specs.declared.Clause.{Clause}
 use Rattle.asked.specs.Words.{word_atoms, slot_of, seen}
 use Rattle.asked.specs.Asked.{every_column, Tells, TellsMeets, three, Differs}
 use Rattle.asked.proofs.Laying.{words_same}

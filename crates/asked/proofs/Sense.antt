@@ -16,7 +16,7 @@ use Rattle.meaning.specs.declared.Content.TheVariants.{Null, Value}
 use Rattle.lists.specs.Lists.{every}
 use Rattle.lists.proofs.BoolLaws.{both, join, every_append}
 use Rattle.meaning.specs.Values.{Contents}
-use Rattle.meaning.specs.Atoms.{at_most, at_least, is_below, is_above, Operator, equals, in_list, not_in_list, order, is_null, is_not_null, Atom, among, is_value, passes, met, clause_met}
+use Rattle.meaning.specs.Atoms.{at_most, at_least, is_below, is_above, Operator, equals, in_list, not_in_list, order, is_null, is_not_null, among, is_value, passes, met, clause_met}
 use Rattle.meaning.specs.Steps.{on}
 use Rattle.asked.specs.Words.{numbers_at, word_atom, word_atoms}
 use Rattle.words.proofs.NeedLaws.{clash}

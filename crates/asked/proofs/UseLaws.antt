@@ -1,6 +1,6 @@
 -- An accepted sheet's clauses have only variables that are there: those of the sheet, and, where a policy applies to a table, those that the
 -- table's rows and the sessions have. Free of code; assumes nothing.
-use Prim.Native.Nat.{ℕ, ◌+◌, ◌<◌}
+use Prim.Native.Nat.{ℕ, ◌<◌}
 use native.Mathlib.Omega.{arith}
 use mathlib.Core.Path.{◌≡◌, refl, sym, ◌∙◌, ap}
 use mathlib.Core.Bool.{Bool, true, false, cond, ◌&&◌}

@@ -13,7 +13,6 @@ use Rattle.meaning.specs.Sheets as sheets
 use Rattle.meaning.specs.Sheets.{Sheet}
 use Rattle.meaning.specs.Questions.{ClauseCovers, LiveClause}
 use Rattle.meaning.specs.declared.Atom.{Atom}
-use Rattle.meaning.specs.declared.Clause.{Clause}
 use Rattle.meaning.specs.Views.{atom_of}
 use Rattle.lists.specs.Decides.{Decides}
 use Rattle.asked.specs.Asked.{There, Uses, every_column, Tells, Differs, turned_by, turned}

@@ -3,6 +3,7 @@
 // imply", "Clause p covers clause q when every row and session meeting q meets p", "some row meets a with one session and b with a session of
 // another tenant". Stands on meaning (atoms, clauses, questions), words (the conjunction) and reach (the least solution).
 #![tactic(auto)]
+
 ghost use Rattle.std.specs.Prelude.{◌≡◌, List, [], ◌∷◌, ◌++◌, map, ℕ, ◌+◌, ◌*◌, ◌/◌, ◌%◌, ◌≤◌, ◌<◌, length, get_or, true};
 ghost use Rattle.meaning.specs.Questions.{ClauseCovers, LiveClause};
 ghost use Rattle.meaning.specs.Views.{atom_of, clause_of, KindsAre};

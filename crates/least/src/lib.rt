@@ -3,6 +3,7 @@
 // the struck-out values are gathered before the search ("f not in [0] and f not in [1]: dropped"), and no promise above says so. Every pass is
 // linear in the atoms and their values. Stands on words (the conjunction).
 #![tactic(auto)]
+
 ghost use Rattle.std.specs.Prelude.{◌≡◌, List, ℕ, ◌+◌, ◌*◌, ◌/◌, ◌%◌, ◌≤◌, ◌<◌, length, get_or};
 ghost use Rattle.lists.specs.Decides.{Decides};
 ghost use Rattle.words.specs.Meaning.{Test, op_at, test_at};

@@ -3,6 +3,7 @@
 // is true; SQL's unknown is not met." "Two sessions are of different tenants when key 0 differs, null counted as one more value." Stands on
 // words (the conjunction, its classes) and least (the least value of a class).
 #![tactic(auto)]
+
 ghost use Rattle.std.specs.Prelude.{◌≡◌, ℕ, ◌<◌, get_or};
 ghost use Rattle.words.specs.Ties.{Closed};
 ghost use Rattle.reach.specs.Choice.{Highest, Chosen, ChosenOr};

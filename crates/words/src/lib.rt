@@ -2,6 +2,7 @@
 // eleven an atom, over variables 0..31: columns, the first session's keys, the second's. "Every atom but "is null" needs its variables
 // non-null." Every slice is a conjunction: words that are no atom have a meaning in specs/Meaning.antt. Stands on no other crate.
 #![tactic(auto)]
+
 ghost use Rattle.std.specs.Prelude.{◌≡◌, true, ℕ, ◌/◌, ◌<◌, length, get_or};
 ghost use Rattle.words.specs.Meaning.{wants, test_at, var_at};
 ghost use Rattle.words.specs.Ties.{mate_at, Needs, Tied, renamed, Renames, Classes};
