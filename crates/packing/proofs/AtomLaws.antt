@@ -1,5 +1,5 @@
 -- The parts of an atom and of a clause, as their bits have them.
-use Prim.Native.Nat.{ℕ, ◌+◌, ◌^◌, ◌<◌, min}
+use Prim.Native.Nat.{ℕ, ◌^◌, ◌<◌, min}
 use mathlib.Core.Path.{◌≡◌, sym, ap, subst, ◌∙◌}
 use mathlib.Core.List.{List, ◌++◌}
 use native.Mathlib.Omega.{arith}
@@ -7,7 +7,6 @@ use lib.ListN.{get_or}
 use Rattle.bits.specs.Bits.{bits}
 use Rattle.meaning.specs.declared.Atom.{Atom}
 use Rattle.meaning.specs.Values.{Kind, integer, token, boolean, kind_number}
-use Rattle.meaning.specs.Atoms as m
 use Rattle.meaning.specs.Packed.{operator_number, operand_bits, atom_bits}
 use Rattle.meaning.specs.Views.{atom_of}
 use Rattle.steps.specs.Lists.{kind_from, kind_by}

@@ -3,6 +3,7 @@
 // there is no room a field is left out, and the promises then promise nothing (specs/Wrote.antt). Stands on bits (a field put behind the
 // bits before it), meaning, and steps (lists by value, kinds by number).
 #![tactic(auto)]
+
 ghost use Rattle.std.specs.Prelude.{◌≡◌, ℕ, ◌+◌, ◌-◌, ◌^◌, ◌≤◌, ◌<◌, min, List, [], ◌∷◌, ◌++◌, length, take, drop, get_or};
 ghost use Rattle.lists.specs.Lists.{each};
 ghost use Rattle.bits.specs.Bits.{number, bits};

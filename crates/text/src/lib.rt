@@ -1,6 +1,7 @@
 // A text, written byte by byte into a lent buffer. A place in the buffer comes in with what is to be written there; the place behind it goes
 // out. Decimal numbers are those of document 01's read-out ("all numbers are decimal"). Stands on meaning.
 #![tactic(auto)]
+
 ghost use Rattle.std.specs.Prelude.{◌≡◌, List, [], ◌∷◌, ℕ, ◌+◌, ◌≤◌, ◌<◌, length};
 ghost use Rattle.meaning.specs.ReadOut.{decimal_in, decimal};
 ghost use Rattle.text.specs.Wrote.{Wrote};
