@@ -1,14 +1,15 @@
 // The words of a case file (crates/cases/data/README.md): words parted by one space, lines ended by a newline, bytes in hex, numbers in decimal. A file's
 // bytes come in with a place; a word's bounds, a number or bytes go out. Total: a file that is not of this form gives some words too.
 #![tactic(auto)]
+
 ghost use Rattle.std.specs.Prelude.{◌≡◌, ◌+◌, ◌≤◌, ◌<◌, min, length, get_or, drop};
 ghost use Rattle.std.proofs.Math.Seq.{slice};
-ghost use Rattle.io.specs.Counts.{IsPrefixLen};
+ghost use Rattle.std.specs.Counts.{IsPrefixLen};
 ghost use Rattle.script.specs.Words.{ends_word, word_length, line_length};
 ghost use Rattle.script.specs.Spelt.{decimal_digit, hex_digit, decimal_of, hex_bytes, Filled};
 
 // A word stands from `from` up to `to`.
-#[derive(Drop)]
+#[derive(Clone, Copy)]
 pub struct Word {
     pub from: usize,
     pub to: usize,
