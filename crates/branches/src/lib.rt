@@ -16,21 +16,21 @@ use sheet::Directory;
 const NONE: u64 = 8;
 
 // A branch: the policy that its permissive clause is of, and for each policy the number of the clause picked, or NONE.
-#[derive(Drop)]
+#[derive(Clone, Copy)]
 pub struct Branch {
     pub policy: usize,
     pub slots: [u64; 16],
 }
 
 // The restrictive clauses of a branch, and the number of its permissive clause.
-#[derive(Drop)]
+#[derive(Clone, Copy)]
 pub struct Digits {
     pub rest: u64,
     pub slots: [u64; 16],
 }
 
 // A permissive clause: its policy and its number there.
-#[derive(Drop)]
+#[derive(Clone, Copy)]
 pub struct Permitted {
     pub policy: usize,
     pub clause: u64,

@@ -6,7 +6,7 @@ ghost use Rattle.fiddlecomet.specs.Numbers.{listed_of, written_of, life_of, isol
 use meaning::{BranchCount, Cover, Isolation, Life, Listed, Written};
 
 #[repr(C)]
-#[derive(Drop)]
+#[derive(Clone, Copy)]
 pub struct ListedNumbers {
     pub refusal: u32,
     pub length: u32,
@@ -14,21 +14,21 @@ pub struct ListedNumbers {
 }
 
 #[repr(C)]
-#[derive(Drop)]
+#[derive(Clone, Copy)]
 pub struct WrittenNumbers {
     pub refusal: u32,
     pub length: u32,
 }
 
 #[repr(C)]
-#[derive(Drop)]
+#[derive(Clone, Copy)]
 pub struct LifeNumbers {
     pub refusal: u32,
     pub dead: u32,
 }
 
 #[repr(C)]
-#[derive(Drop)]
+#[derive(Clone, Copy)]
 pub struct IsolationNumbers {
     pub refusal: u32,
     pub leaks: u32,
@@ -37,14 +37,14 @@ pub struct IsolationNumbers {
 }
 
 #[repr(C)]
-#[derive(Drop)]
+#[derive(Clone, Copy)]
 pub struct CoverNumbers {
     pub refusal: u32,
     pub covers: u32,
 }
 
 #[repr(C)]
-#[derive(Drop)]
+#[derive(Clone, Copy)]
 pub struct CountNumbers {
     pub refusal: u32,
     pub count: u64,

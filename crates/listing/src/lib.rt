@@ -25,7 +25,7 @@ use sheet::{Directory, Outcome, read_sheet};
 pub mod plans;
 
 // How many clauses of permissive policies a plan has, one of which must be met, and how many restrictive policies, each of which must be met.
-#[derive(Drop)]
+#[derive(Clone, Copy)]
 pub struct Plan {
     pub some: usize,
     pub all: usize,

@@ -15,7 +15,6 @@ use borrow.Author.Tests.{lt-ltb, le-ltb}
 use Rattle.lists.specs.Lists.{numbers_from, every}
 use Rattle.lists.proofs.BoolLaws.{every_more, every_true, every_both}
 use Rattle.lists.proofs.NumberLaws.{numbers_more, every_at}
-use Rattle.meaning.specs.declared.Atom.{Atom}
 use Rattle.meaning.specs.Atoms as m
 use Rattle.meaning.specs.Sheets.{Sheet, member, second, matches, table_at, columns_held}
 use Rattle.meaning.specs.Sheets as sheets

@@ -17,7 +17,7 @@ pub use entries::applies;
 pub use whole::read_sheet;
 
 // "each table: schema, tags, columns held"
-#[derive(Drop)]
+#[derive(Clone, Copy)]
 pub struct Table {
     pub schema: u32,
     pub tags: u32,
@@ -26,34 +26,34 @@ pub struct Table {
 
 // What an accepted sheet holds, beside its book of 240 cells: three for each table from cell 0 on (schema, tags, columns held), and twelve for
 // each policy from cell 48 on (type, commands, where its selector begins, how many clauses it has, where each of them begins).
-#[derive(Drop)]
+#[derive(Clone, Copy)]
 pub struct Directory {
     pub facts: Facts,
     pub policies: u64,
 }
 
 // What becomes of a sheet. A refusal's directory is all zeros.
-#[derive(Drop)]
+#[derive(Clone, Copy)]
 pub enum Outcome {
     Accepted,
     Refused(u32),
 }
 
-#[derive(Drop)]
+#[derive(Clone, Copy)]
 pub struct Reading {
     pub outcome: Outcome,
     pub directory: Directory,
 }
 
 // A selector read: does it match the table?
-#[derive(Drop)]
+#[derive(Clone, Copy)]
 pub struct Chosen {
     pub end: End,
     pub matched: bool,
 }
 
 // The counts of a sheet, zeros where they are refused.
-#[derive(Drop)]
+#[derive(Clone, Copy)]
 pub struct Counts {
     pub end: End,
     pub columns: u64,
@@ -62,20 +62,20 @@ pub struct Counts {
     pub policies: u64,
 }
 
-#[derive(Drop)]
+#[derive(Clone, Copy)]
 pub struct Kinds {
     pub end: End,
     pub kinds: [u8; 24],
 }
 
-#[derive(Drop)]
+#[derive(Clone, Copy)]
 pub struct TableRead {
     pub end: End,
     pub table: Table,
 }
 
 // What stands before the policies, but for the table facts.
-#[derive(Drop)]
+#[derive(Clone, Copy)]
 pub struct Front {
     pub end: End,
     pub facts: Facts,

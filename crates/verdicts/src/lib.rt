@@ -22,7 +22,7 @@ pub use replies::{branch_count, covers, dead, isolated};
 use sheet::Directory;
 
 // What a table and command ask of a sheet: the policies' roles and clause counts, N, and the last values of the variables' kinds.
-#[derive(Drop)]
+#[derive(Clone, Copy)]
 pub struct Question {
     pub roles: [u64; 16],
     pub counts: [u64; 16],
@@ -31,13 +31,13 @@ pub struct Question {
 }
 
 // Does what is asked stand? A refusal carries its number.
-#[derive(Drop)]
+#[derive(Clone, Copy)]
 pub enum Standing {
     Stands,
     Refused(u32),
 }
 
-#[derive(Drop)]
+#[derive(Clone, Copy)]
 pub struct Posed {
     pub standing: Standing,
     pub directory: Directory,
