@@ -1,5 +1,5 @@
 -- The k-th of joined clauses by division and remainder, and choices with one more policy behind: the last varies fastest.
-use Prim.Native.Nat.{ℕ, zero, suc, ◌+◌, ◌*◌, ◌-◌, ◌/◌, ◌%◌, ◌<◌, ◌≤◌}
+use Prim.Native.Nat.{ℕ, zero, suc, ◌+◌, ◌*◌, ◌/◌, ◌%◌, ◌<◌, ◌≤◌}
 use native.Mathlib.Omega.{arith}
 use native.Mathlib.Nat.{mod-lt, div-lt_iff_lt-mul, div-add-mod', le_of_suc-le-suc, not-suc-le-zero, zero-mul, mul-zero, suc-mul}
 use mathlib.Core.Path.{◌≡◌, refl, sym, ap, subst, ◌∙◌}

@@ -4,6 +4,7 @@
 // numbered from 0 in sheet order, the permissive clause varying slowest and the last restrictive policy fastest." Stands on meaning and sheet,
 // which say what roles and counts a sheet's policies have.
 #![tactic(auto)]
+
 ghost use Rattle.std.specs.Prelude.{◌≡◌, ℕ, ◌+◌, ◌*◌, ◌/◌, ◌%◌, ◌<◌, ◌≤◌, min, cond, List, length};
 ghost use Rattle.meaning.specs.Sheets.{Sheet};
 ghost use Rattle.meaning.specs.Allowed.{SheetAllowed};
