@@ -4,6 +4,7 @@
 // byte. A row is the same over the columns that its table holds". A list is judged whole (`judging`) before its rows are read; `inner` has both
 // for rows with room behind them. Stands on bits, meaning and values; specs/Held.antt says what an answer stands for.
 #![tactic(auto)]
+
 ghost use Rattle.std.specs.Prelude.{◌≡◌, ℕ, ◌+◌, ◌*◌, ◌/◌, ◌^◌, ◌≤◌, ◌<◌, Bool, true, List, length};
 ghost use Rattle.bits.specs.Bits.{number};
 ghost use Rattle.meaning.specs.Values.{Kind, kind_number};
@@ -22,14 +23,14 @@ pub mod judging;
 pub use judging::are_rows;
 
 // What reading a content finds: the content with the bit number after it, or it is not of the form.
-#[derive(Drop)]
+#[derive(Clone, Copy)]
 pub enum ContentRead {
     Found(Content, usize),
     Lost,
 }
 
 // Where a session or a row ends, as a bit number, or it is not of the form.
-#[derive(Drop)]
+#[derive(Clone, Copy)]
 pub enum Ended {
     At(usize),
     Lost,
