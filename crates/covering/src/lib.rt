@@ -3,6 +3,7 @@
 // B that some row and session meets is covered by a single clause of A. Type, commands and selector play no part." Stands on sheet (where the
 // clauses are), clauses (a clause, read by value) and asked (whether a clause can be met, and whether it covers another).
 #![tactic(auto)]
+
 ghost use Rattle.std.specs.Prelude.{◌≡◌, [], ◌<◌, length, get_or};
 ghost use Rattle.meaning.specs.Sheets.{Sheet};
 ghost use Rattle.meaning.specs.Views.{clause_of};
