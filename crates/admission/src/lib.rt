@@ -13,7 +13,7 @@ pub use laying::lay_clause;
 pub use meeting::is_admitted;
 
 // A word with the number of bits of its atom.
-#[derive(Drop)]
+#[derive(Clone, Copy)]
 pub struct Laid {
     pub word: u16,
     pub size: usize,
