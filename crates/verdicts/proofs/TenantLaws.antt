@@ -70,6 +70,7 @@ other_atom c n ns e = let q : ◌≡◌ {A = Operator} (in_list ns) (equals 16) 
 
 lone : (c : ℕ) (a : Atom) → TenantAtom c (a ∷ []) → a ≡ on c (equals 16)
 lone c a (One.here e) = e
+lone c a (One.later o) = elim o [ ]
 
 pub restriction_unseen : (c : ℕ) → EachHasIt by_restriction 0 0 c → ⊥
 restriction_unseen c h = other_atom c f (1 ∷ []) (lone c (on f (in_list (1 ∷ []))) h.0.1.0)
@@ -105,6 +106,7 @@ of_atom v u c e = (ap (λ a. a.variable) e, go (ap (λ a. a.operator) e))
 second_lacks : (c : ℕ) → 0 ≡ c → TenantAtom c (on 0 (equals 1) ∷ on 1 (equals 16) ∷ []) → ⊥
 second_lacks c z (One.here e) = let x = (of_atom 0 1 c e).1 in omega arith
 second_lacks c z (One.later (One.here e)) = let x = (of_atom 1 16 c e).0 in omega arith
+second_lacks c z (One.later (One.later o)) = elim o [ ]
 
 pub second_unseen : (c : ℕ) → EachHasIt through_second 0 0 c → ⊥
 second_unseen c h = second_lacks c (of_atom 0 16 c (lone c (on 0 (equals 16)) h.0.0)).0 h.0.1.0

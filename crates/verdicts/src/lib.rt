@@ -4,6 +4,7 @@
 // "Policy A covers policy B when each clause of B that some row and session meets is covered by a single clause of A". Stands on sheet (the
 // directory), branches (the clauses that a branch picks), asked (what a conjunction can be met by) and covering (which clauses cover which).
 #![tactic(auto)]
+
 ghost use Rattle.std.specs.Prelude.{◌≡◌, false, [], ◌++◌, map, ℕ, ◌+◌, ◌*◌, ◌<◌, ◌≤◌, length, get_or};
 ghost use Rattle.lists.specs.Decides.{Decides};
 ghost use Rattle.meaning.specs.Sheets.{Sheet};
