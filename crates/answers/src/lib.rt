@@ -1,6 +1,7 @@
 // The verdicts of a sheet's bytes: the bytes and what is asked of them come in, and out goes the answer or the first refusal, as document 01
 // has them. Each reads the sheet and hands what was read to the crate that answers. Stands on sheet and verdicts.
 #![tactic(auto)]
+
 ghost use Rattle.meaning.specs.Replies.{DeadReply, IsolatedReply, CoversReply, BranchesReply};
 
 use meaning::{BranchCount, Cover, Isolation, Life};
