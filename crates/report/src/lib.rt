@@ -7,7 +7,7 @@ ghost use Rattle.meaning.specs.ReadOut.{Line, ReadOut};
 ghost use Rattle.meaning.specs.Demands.{Accepted};
 ghost use Rattle.meaning.specs.ReadOut.{life_text, isolation_text};
 ghost use Rattle.text.specs.Wrote.{Wrote};
-ghost use Rattle.io.specs.Counts.{IsPrefixLen};
+ghost use Rattle.std.specs.Counts.{IsPrefixLen};
 ghost use Rattle.report.specs.Lines.{Writes, IsRest, Asked, FirstLines};
 ghost use Rattle.report.specs.Texts.{verdicts_text, letter_of, head_text, opening_text, refusal_text};
 
