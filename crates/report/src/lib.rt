@@ -1,6 +1,7 @@
 // The read-out, as document 01 lays it down: a sheet's bytes come in, and the text goes out into a lent buffer: the first line with T and P,
 // then a line for each table and command with N, live or dead, isolated or the leak; or one line with the refusal. Stands on text, sheet and answers.
 #![tactic(auto)]
+
 ghost use Rattle.std.specs.Prelude.{◌≡◌, ℕ, ◌+◌, ◌*◌, ◌≤◌, ◌<◌, length, take};
 ghost use Rattle.meaning.specs.Sheets.{Sheet};
 ghost use Rattle.meaning.specs.ReadOut.{Line, ReadOut};
