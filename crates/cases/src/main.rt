@@ -1,14 +1,19 @@
 // Runs the cases of data/ (its README has the format) through the public calls, and prints how many of each file came out as document 01 has them.
 #![tactic(auto)]
-ghost use Rattle.std.specs.Prelude.{◌≡◌, length};
-ghost use Rattle.io.specs.Counts.{IsPrefixLen};
+
+ghost use Rattle.std.specs.Prelude.{◌≡◌, ◌<◌, length, take, IfOk};
+ghost use Rattle.std.specs.Counts.{IsPrefixLen};
+ghost use Rattle.std.specs.Io.KnownBytes.{Consumes, IsAtEnd};
 
 use fiddlecomet::{
     fiddlecomet_branches, fiddlecomet_covers, fiddlecomet_dead, fiddlecomet_isolated,
     fiddlecomet_listing, fiddlecomet_normal_form,
 };
-use libc::STDOUT_FILENO;
 use script::{Word, behind, first, hex, next_line, number, word_at};
+use std::fs::File;
+use std::io;
+use std::io::Read;
+use std::rt::Files;
 
 // What every byte of a lent output is before a call.
 const FILL: u8 = 165;
@@ -278,7 +283,7 @@ fn is_case(s: &[u8], at: usize) -> bool {
 }
 
 // Runs each case of a file, and prints where one fails.
-fn run_cases(name: &[u8], s: &[u8]) {
+fn run_cases(rt: &impl Print, name: &str, s: &[u8]) -> io::Result<()> {
     let mut at = 0;
     let mut passed: usize = 0;
     let mut failed: usize = 0;
@@ -296,27 +301,24 @@ fn run_cases(name: &[u8], s: &[u8]) {
                 continue;
             }
             failed += 1;
-            say_line(name, line as u64);
+            say_line(rt, name, line as u64)?;
             continue;
         }
     }
-    say_end(name, passed as u64, failed as u64);
+    say_end(rt, name, passed as u64, failed as u64)
 }
 
-fn say_line(name: &[u8], line: u64) {
-    say(name, b": not as line ", line);
+fn say_line(rt: &impl Print, name: &str, line: u64) -> io::Result<()> {
+    say(rt, name, ": not as line ", line)
 }
 
-fn say_end(name: &[u8], passed: u64, failed: u64) {
-    say(name, b": passed ", passed);
-    say(name, b": failed ", failed);
+fn say_end(rt: &impl Print, name: &str, passed: u64, failed: u64) -> io::Result<()> {
+    say(rt, name, ": passed ", passed)?;
+    say(rt, name, ": failed ", failed)
 }
 
-fn say(name: &[u8], words: &[u8], n: u64) {
-    io::write_all(STDOUT_FILENO, name);
-    io::write_all(STDOUT_FILENO, words);
-    io::print_decimal(STDOUT_FILENO, n);
-    io::write_all(STDOUT_FILENO, b"\n");
+fn say(rt: &impl Print, name: &str, words: &str, n: u64) -> io::Result<()> {
+    println!(rt; "{name}{words}{n}")
 }
 
 // Room for the longest file.
@@ -326,27 +328,43 @@ fn space() -> [u8; 720000]
     [0; 720000]
 }
 
-// Runs the cases of the file of this name.
-fn run_file(name: &[u8]) {
-    let file = os::open_read(name);
-    if file < 0 {
-        os::fail(name);
-        return;
+// Reads until the buffer is full or the input ends: how many bytes stand at its start.
+fn read_full<R: Read>(input: &mut R, buf: &mut [u8]) -> io::Result<usize>
+    ensures counts { IfOk result (λ n. IsPrefixLen n buf.new) }
+    ensures bytes { IfOk result (λ n. Consumes (R.remaining input.old) (R.remaining input.new) (take n buf.new)) }
+    ensures end { IfOk result (λ n. n < length buf.new → IsAtEnd (R.remaining input.new)) }
+{
+    let mut done = 0;
+    while done < buf.len() {
+        let n = input.read(&mut buf[done..])?;
+        if n == 0 {
+            break;
+        }
+        done += n;
     }
-    let mut text = space();
-    let n = io::read_full(file, &mut text);
-    libc::close(file);
-    run_cases(name, &text[..n]);
+    Ok(done)
 }
 
-fn main() {
-    run_file(b"marked.txt");
-    run_file(b"refusals.txt");
-    run_file(b"order.txt");
-    run_file(b"truncated.txt");
-    run_file(b"limits.txt");
-    run_file(b"large.txt");
-    run_file(b"verdicts.txt");
-    run_file(b"normals.txt");
-    run_file(b"listings.txt");
+// Runs the cases of the file of this name.
+fn run_file(rt: &(impl Files + Print + Eprint), name: &str) -> io::Result<()> {
+    match File::open(rt, name) {
+        Ok(mut file) => {
+            let mut text = space();
+            let n = read_full(&mut file, &mut text)?;
+            run_cases(rt, name, &text[..n])
+        }
+        Err(e) => eprintln!(rt; "{name}: {e}"),
+    }
+}
+
+fn main(rt: HostRuntime) -> io::Result<()> {
+    run_file(&rt, "marked.txt")?;
+    run_file(&rt, "refusals.txt")?;
+    run_file(&rt, "order.txt")?;
+    run_file(&rt, "truncated.txt")?;
+    run_file(&rt, "limits.txt")?;
+    run_file(&rt, "large.txt")?;
+    run_file(&rt, "verdicts.txt")?;
+    run_file(&rt, "normals.txt")?;
+    run_file(&rt, "listings.txt")
 }

@@ -1,13 +1,14 @@
 // The read-out, as document 01 lays it down: a sheet's bytes come in, and the text goes out into a lent buffer: the first line with T and P,
 // then a line for each table and command with N, live or dead, isolated or the leak; or one line with the refusal. Stands on text, sheet and answers.
 #![tactic(auto)]
+
 ghost use Rattle.std.specs.Prelude.{◌≡◌, ℕ, ◌+◌, ◌*◌, ◌≤◌, ◌<◌, length, take};
 ghost use Rattle.meaning.specs.Sheets.{Sheet};
 ghost use Rattle.meaning.specs.ReadOut.{Line, ReadOut};
 ghost use Rattle.meaning.specs.Demands.{Accepted};
 ghost use Rattle.meaning.specs.ReadOut.{life_text, isolation_text};
 ghost use Rattle.text.specs.Wrote.{Wrote};
-ghost use Rattle.io.specs.Counts.{IsPrefixLen};
+ghost use Rattle.std.specs.Counts.{IsPrefixLen};
 ghost use Rattle.report.specs.Lines.{Writes, IsRest, Asked, FirstLines};
 ghost use Rattle.report.specs.Texts.{verdicts_text, letter_of, head_text, opening_text, refusal_text};
 

@@ -1,0 +1,6 @@
+-- A line is its head, its rest and its end.
+use Rattle.report.proofs.LineLaws.{line_told}
+use Rattle.report.proofs.put_line.Goals as goal
+
+pub returns-clause-text : goal.returns-clause-text
+returns-clause-text c = line_told _ _ _ c.put_head-head.ensures.text c.put_answers-rest.ensures.text c.put_byte.ensures
