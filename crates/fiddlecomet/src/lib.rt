@@ -1,4 +1,5 @@
-// The library as a C host sees it: the public calls of include/fiddlecomet.h, on numbers and byte slices. Each hands its inputs to the crate
+// The library as a C host sees it: the public calls of include/fiddlecomet.h (crate fiddlecomet_c exports them), on numbers and byte slices. Each
+// hands its inputs to the crate
 // that answers, and the answer's numbers to the host: "A refusal returns its number and zeros and changes no output byte." Every promise
 // determines reply and output memory for every input, and asks nothing of the caller. proofs/Demands.antt says the customer's demands of it.
 #![tactic(auto)]
@@ -11,8 +12,7 @@ use numbers::{
 pub mod numbers;
 
 // Lists the rows that a session may see.
-#[unsafe(no_mangle)]
-pub extern "C" fn fiddlecomet_listing(
+pub fn fiddlecomet_listing(
     sheet: &[u8],
     table: u32,
     command: u32,
@@ -26,40 +26,35 @@ pub extern "C" fn fiddlecomet_listing(
 }
 
 // Writes the sheet's normal form.
-#[unsafe(no_mangle)]
-pub extern "C" fn fiddlecomet_normal_form(sheet: &[u8], out: &mut [u8]) -> WrittenNumbers
+pub fn fiddlecomet_normal_form(sheet: &[u8], out: &mut [u8]) -> WrittenNumbers
     ensures { NormalFormNumbers sheet.now out.old result out.new }
 {
     numbers::written(normal::normal_form(sheet, out))
 }
 
 // Can nobody be handed any row of the table under the command?
-#[unsafe(no_mangle)]
-pub extern "C" fn fiddlecomet_dead(sheet: &[u8], table: u32, command: u32) -> LifeNumbers
+pub fn fiddlecomet_dead(sheet: &[u8], table: u32, command: u32) -> LifeNumbers
     ensures { DeadNumbers sheet.now table command result }
 {
     numbers::life(answers::dead(sheet, table, command))
 }
 
 // Can no row of the table be handed to sessions of two tenants under the command? Else the first two branches that leak.
-#[unsafe(no_mangle)]
-pub extern "C" fn fiddlecomet_isolated(sheet: &[u8], table: u32, command: u32) -> IsolationNumbers
+pub fn fiddlecomet_isolated(sheet: &[u8], table: u32, command: u32) -> IsolationNumbers
     ensures { IsolatedNumbers sheet.now table command result }
 {
     numbers::isolation(answers::isolated(sheet, table, command))
 }
 
 // Does policy a cover policy b?
-#[unsafe(no_mangle)]
-pub extern "C" fn fiddlecomet_covers(sheet: &[u8], a: u32, b: u32) -> CoverNumbers
+pub fn fiddlecomet_covers(sheet: &[u8], a: u32, b: u32) -> CoverNumbers
     ensures { CoversNumbers sheet.now a b result }
 {
     numbers::cover(answers::covers(sheet, a, b))
 }
 
 // N: how many branches the table has under the command.
-#[unsafe(no_mangle)]
-pub extern "C" fn fiddlecomet_branches(sheet: &[u8], table: u32, command: u32) -> CountNumbers
+pub fn fiddlecomet_branches(sheet: &[u8], table: u32, command: u32) -> CountNumbers
     ensures { BranchesNumbers sheet.now table command result }
 {
     numbers::branch_count(answers::branches(sheet, table, command))
