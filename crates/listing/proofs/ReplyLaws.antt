@@ -13,7 +13,7 @@ use Rattle.meaning.specs.Values.{Contents}
 use Rattle.meaning.specs.Sheets.{Sheet, table_at}
 use Rattle.meaning.specs.Reading.{Read, found, refused, Row, read_sheet, read_session, read_rows}
 use Rattle.meaning.specs.Reading as r
-use Rattle.meaning.specs.Replies.{asks, need, asked_table, asked_rows, ListingReply}
+use Rattle.meaning.specs.Replies.{asks, asked_table, asked_rows, ListingReply}
 use Rattle.meaning.proofs.ReadLaws.{read_split, need_true}
 use Rattle.rows.specs.Held.{SessionHeld, SessionRead, is_found}
 use Rattle.listing.specs.Ready.{admitted, asked_of, Lists}

@@ -3,6 +3,7 @@
 // true: "Listing hands out the admitted rows, in order, and no others". The list is judged whole before the first byte is written; then each
 // row is read once, against a plan that is laid once for the policies that count. Stands on rows, admission and sheet.
 #![tactic(auto)]
+
 ghost use Rattle.std.specs.Prelude.{◌≡◌, List, ℕ, ◌+◌, ◌-◌, ◌≤◌, ◌<◌, length, drop};
 ghost use Rattle.std.proofs.Math.Seq.{paste};
 ghost use Rattle.meaning.specs.Values.{Contents};

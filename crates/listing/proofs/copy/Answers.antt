@@ -1,0 +1,20 @@
+-- `listing::copy` meets its contract. At each turn i bytes are pasted.
+use Prim.Native.Nat.{◌-◌}
+use native.Mathlib.Omega.{arith}
+use mathlib.Core.Path.{◌≡◌, refl, ap, ◌∙◌}
+use lib.ListN.{drop, length-set}
+use lib.Seq.{paste, paste-zero}
+use Rattle.listing.proofs.RowLaws.{copy_on}
+use Rattle.listing.proofs.copy.Goals as goal
+
+pub loop-i-init : goal.loop-i-init
+loop-i-init c = (omega arith, refl, paste-zero c.args.out.now c.args.at (drop c.args.a c.args.rows.now))
+
+pub loop-i-preserved : goal.loop-i-preserved
+loop-i-preserved c = (omega arith, simp length-set (omega arith), copy_on c.args.rows.now c.args.out.now c.loop-i.out c.args.a c.args.at c.loop-i.i c.loop-i.invariant.2 (omega arith) (omega arith))
+
+pub shape_of-out : goal.shape_of-out
+shape_of-out c = c.loop-i.invariant.1
+
+pub returns : goal.returns
+returns c = let same : c.loop-i.i ≡ c.args.e - c.args.a = omega arith in c.loop-i.invariant.2 ∙ ap (paste c.args.out.now c.args.at (drop c.args.a c.args.rows.now)) same
