@@ -1,8 +1,9 @@
-// The library as a C host sees it: the public calls of include/fiddlecomet.h (crate fiddlecomet_c exports them), on numbers and byte slices. Each
-// hands its inputs to the crate
-// that answers, and the answer's numbers to the host: "A refusal returns its number and zeros and changes no output byte." Every promise
-// determines reply and output memory for every input, and asks nothing of the caller. proofs/Demands.antt says the customer's demands of it.
+// The library as a C host sees it: the public calls of include/fiddlecomet.h (crate fiddlecomet_c exports them), on numbers and byte slices.
+// Each hands its inputs to the crate that answers, and the answer's numbers to the host: "A refusal returns its number and zeros and changes no
+// output byte." Every promise determines reply and output memory for every input, and asks nothing of the caller. proofs/Demands.antt says the
+// customer's demands of it.
 #![tactic(auto)]
+
 ghost use Rattle.fiddlecomet.specs.Numbers.{ListingNumbers, NormalFormNumbers, DeadNumbers, IsolatedNumbers, CoversNumbers, BranchesNumbers};
 
 use numbers::{
