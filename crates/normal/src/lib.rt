@@ -4,6 +4,7 @@
 // form is never longer than its sheet (proved), so that 16 is never the answer, and what is written always has room. Stands on sheet (the
 // directory), clauses (a clause, read by value), asked (step 1), steps and pruned (the other steps), and packing (fields behind one another).
 #![tactic(auto)]
+
 ghost use Rattle.std.specs.Prelude.{◌≡◌, ℕ, ◌+◌, ◌*◌, ◌≤◌, ◌<◌, min, cond, List, [], ◌∷◌, ◌++◌, length, take, get_or};
 ghost use Rattle.lists.specs.Lists.{All, each};
 ghost use Rattle.bits.specs.Bits.{bits};
