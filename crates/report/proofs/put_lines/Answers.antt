@@ -1,12 +1,8 @@
 -- The first n lines are written.
 use borrow.Author.Rules.{rules}
-use Prim.Native.Nat.{◌+◌, ◌*◌, ◌-◌, ◌≤◌}
+use Prim.Native.Nat.{◌*◌}
 use native.Mathlib.Omega.{arith}
 use mathlib.Core.Path.{◌≡◌, sym}
-use lib.ListN.{length}
-use Rattle.meaning.specs.Sheets.{Sheet}
-use Rattle.meaning.specs.Demands.{Accepted}
-use Rattle.report.specs.Lines.{Writes, FirstLines}
 use Rattle.report.proofs.LineLaws.{lines_start, lines_step}
 use Rattle.report.proofs.put_lines.Goals as goal
 

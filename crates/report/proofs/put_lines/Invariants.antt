@@ -1,12 +1,10 @@
 -- The first n lines are written.
 use Prim.Native.Nat.{◌+◌, ◌*◌, ◌-◌, ◌≤◌}
-use native.Mathlib.Omega.{arith}
-use mathlib.Core.Path.{◌≡◌, sym}
+use mathlib.Core.Path.{◌≡◌}
 use lib.ListN.{length}
 use Rattle.meaning.specs.Sheets.{Sheet}
 use Rattle.meaning.specs.Demands.{Accepted}
 use Rattle.report.specs.Lines.{Writes, FirstLines}
-use Rattle.report.proofs.LineLaws.{lines_start, lines_step}
 use Rattle.report.proofs.put_lines.Given as goal
 
 abbrev pub invariant-loop-n : goal.invariant-loop-n
