@@ -1,6 +1,6 @@
 #!/usr/bin/env python3
 """Brings this repository's own names to the spelling of today's Rattle: a word (a definition, a lemma, a constructor, a field) is in snake
-case, a type or a module in upper camel case. Run once, at the top, after the toolchain's script (docs/PORT.md); a second run changes nothing.
+case, a type or a module in upper camel case. Run once, at the top, after the toolchain's script (docs/PORT.md), and never again.
 
 It reads the names that the files of crates/*/specs and crates/*/proofs/*.antt declare. A name with a dash or a capital inside becomes one
 with underscores. A lemma whose new name a definition of the repository has already gets the ending `_lem`. Names of functions of src/, of
