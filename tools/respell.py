@@ -88,7 +88,7 @@ def main():
         for new, olds in by.items():
             if len(olds) > 1 and new != "_":
                 lemmas = [n for n in sorted(olds) if n in where and all("/proofs/" in p for p in where[n])]
-                for n in lemmas[:1] if len(lemmas) < len(olds) else lemmas[1:]:
+                for n in lemmas[:1] if len(lemmas) < len(olds) else lemmas[:-1]:
                     ending.add(n)
                 if not lemmas:
                     print(f"falls together: {path}: {sorted(olds)} are {new}")

@@ -71,13 +71,13 @@ module _ {A : Type 0} (f : A → List ℕ) where
     sort_size (x ∷ xs) = let h = sort_size xs in let k = place_size x (sort before xs) in let l = size_cons x xs in omega arith
 
 -- an operand, of any kind
-abbrev operand_size_lem : Operator → ℕ
-operand_size_lem (equals u) = 5
-operand_size_lem (in_list ns) = 4 + length ns * 64
-operand_size_lem (not_in_list ns) = 4 + length ns * 64
-operand_size_lem (order o n) = 64
-operand_size_lem is_null = 0
-operand_size_lem is_not_null = 0
+abbrev operand_size : Operator → ℕ
+operand_size (equals u) = 5
+operand_size (in_list ns) = 4 + length ns * 64
+operand_size (not_in_list ns) = 4 + length ns * 64
+operand_size (order o n) = 64
+operand_size is_null = 0
+operand_size is_not_null = 0
 
 values_size : (k : Kind) (ns : List ℕ) → size (value_bits k) ns ≡ length ns * 64
 values_size k [] = omega arith
@@ -86,31 +86,31 @@ values_size k (n ∷ ns) = let h = values_size k ns in let b = bits_length 64 (r
 list_size : (k : Kind) (ns : List ℕ) → length (bits 4 (length ns) ++ each (value_bits k) ns) ≡ 4 + length ns * 64
 list_size k ns = length-append (bits 4 (length ns)) (each (value_bits k) ns) ∙ ap (λ z. z + size (value_bits k) ns) (bits_length 4 (length ns)) ∙ ap (λ z. 4 + z) (values_size k ns)
 
-operand_size : (k : Kind) (o : Operator) → length (operand_bits k o) ≡ operand_size_lem o
-operand_size k (equals u) = bits_length 5 u
-operand_size k (in_list ns) = list_size k ns
-operand_size k (not_in_list ns) = list_size k ns
-operand_size k (order o n) = bits_length 64 (raw k n)
-operand_size k is_null = refl
-operand_size k is_not_null = refl
+operand_size_lem : (k : Kind) (o : Operator) → length (operand_bits k o) ≡ operand_size o
+operand_size_lem k (equals u) = bits_length 5 u
+operand_size_lem k (in_list ns) = list_size k ns
+operand_size_lem k (not_in_list ns) = list_size k ns
+operand_size_lem k (order o n) = bits_length 64 (raw k n)
+operand_size_lem k is_null = refl
+operand_size_lem k is_not_null = refl
 
 module _ (kind : ℕ → Kind) where
-  atom_size : (a : Atom) → length (atom_bits kind a) ≡ 9 + operand_size_lem a.operator
+  atom_size : (a : Atom) → length (atom_bits kind a) ≡ 9 + operand_size a.operator
   atom_size a =
       let x = length-append (bits 5 a.variable) (bits 4 (operator_number a.operator) ++ operand_bits (kind a.variable) a.operator) in
       let y = length-append (bits 4 (operator_number a.operator)) (operand_bits (kind a.variable) a.operator) in
       let b = bits_length 5 a.variable in
       let c = bits_length 4 (operator_number a.operator) in
-      let d = operand_size (kind a.variable) a.operator in
+      let d = operand_size_lem (kind a.variable) a.operator in
       omega arith
 
-  smaller : (a b : Atom) → operand_size_lem b.operator ≤ operand_size_lem a.operator → length (atom_bits kind b) ≤ length (atom_bits kind a)
+  smaller : (a b : Atom) → operand_size b.operator ≤ operand_size a.operator → length (atom_bits kind b) ≤ length (atom_bits kind a)
   smaller a b h = let x = atom_size a in let y = atom_size b in omega arith
 
-  oriented_size : (v : ℕ) (o : Operator) → operand_size_lem (oriented v o).operator ≤ operand_size_lem o
+  oriented_size : (v : ℕ) (o : Operator) → operand_size (oriented v o).operator ≤ operand_size o
   oriented_size v (equals u) = go (eqb v u) (ltb u v)
     where
-      go : (a b : Bool) → operand_size_lem (cond a (on v is_not_null) (cond b (on u (equals v)) (on v (equals u)))).operator ≤ 5
+      go : (a b : Bool) → operand_size (cond a (on v is_not_null) (cond b (on u (equals v)) (on v (equals u)))).operator ≤ 5
       go true b = omega arith
       go false true = omega arith
       go false false = omega arith
@@ -120,13 +120,13 @@ module _ (kind : ℕ → Kind) where
   oriented_size v is_null = omega arith
   oriented_size v is_not_null = omega arith
 
-  closed_size : (o : Order) (n : ℕ) → operand_size_lem (closed o n) ≤ 64
+  closed_size : (o : Order) (n : ℕ) → operand_size (closed o n) ≤ 64
   closed_size at_most n = omega arith
   closed_size at_least n = omega arith
   closed_size is_below n = omega arith
   closed_size is_above n = omega arith
 
-  tightened_size : (o : Operator) → operand_size_lem (tightened o) ≤ operand_size_lem o
+  tightened_size : (o : Operator) → operand_size (tightened o) ≤ operand_size o
   tightened_size (equals u) = omega arith
   tightened_size (in_list ns) = let h = ascend_length ltb ns in omega arith
   tightened_size (not_in_list ns) = let h = ascend_length ltb ns in omega arith
@@ -134,7 +134,7 @@ module _ (kind : ℕ → Kind) where
   tightened_size is_null = omega arith
   tightened_size is_not_null = omega arith
 
-  shared_size : (c : Clause) (v : ℕ) (o : Operator) → operand_size_lem (shared c v o) ≤ operand_size_lem o
+  shared_size : (c : Clause) (v : ℕ) (o : Operator) → operand_size (shared c v o) ≤ operand_size o
   shared_size c v (equals u) = omega arith
   shared_size c v (in_list ns) = let h = sub_length (keep_sub (is_common c v) ns) in omega arith
   shared_size c v (not_in_list ns) = omega arith

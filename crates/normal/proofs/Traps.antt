@@ -25,11 +25,11 @@ self_equality_becomes x = rw (eq-eqb x x refl)
 
 -- "It may absorb `= true` into "is not null". False is not null; this is never done.": a row with 0 in the column is not null there
 module _ (sheet : Sheet) (c : ℕ) (small : c < 16) (there : c < length sheet.columns) where
-  abbrev false_row_lem : Contents
-  false_row_lem v = cond (eqb v c) (Value 0) Null
+  abbrev false_row : Contents
+  false_row v = cond (eqb v c) (Value 0) Null
 
-  false_row : IsAnyRow sheet false_row_lem
-  false_row = record { fits = λ i. fit (get_or sheet.columns i integer) (eqb i c); absent = λ i e. gone i (eqb i c) refl e }
+  false_row_lem : IsAnyRow sheet false_row
+  false_row_lem = record { fits = λ i. fit (get_or sheet.columns i integer) (eqb i c); absent = λ i e. gone i (eqb i c) refl e }
     where
       fit : (k : Kind) (b : Bool) → Fits k (cond b (Value 0) Null)
       fit integer true = omega arith
@@ -44,14 +44,14 @@ module _ (sheet : Sheet) (c : ℕ) (small : c < 16) (there : c < length sheet.co
   no_session : IsSession sheet (λ k. Null)
   no_session = record { fits = λ i. tt; absent = λ i e. refl }
 
-  holds_false : with false_row_lem (λ k. Null) c ≡ Value 0
+  holds_false : with false_row (λ k. Null) c ≡ Value 0
   holds_false = rw (lt-ltb c 16 small, eq-eqb c c refl)
 
   pub true_not_absorbed : ClauseCovers sheet (on c (in_list (1 ∷ [])) ∷ []) (on c is_not_null ∷ []) → ⊥
   true_not_absorbed h =
-      let m : clause_met (with false_row_lem (λ k. Null)) (on c is_not_null ∷ []) ≡ true = rw holds_false in
-      let n : clause_met (with false_row_lem (λ k. Null)) (on c (in_list (1 ∷ [])) ∷ []) ≡ false = rw holds_false in
-      true≢false (sym (h false_row_lem (λ k. Null) false_row no_session m) ∙ n)
+      let m : clause_met (with false_row (λ k. Null)) (on c is_not_null ∷ []) ≡ true = rw holds_false in
+      let n : clause_met (with false_row (λ k. Null)) (on c (in_list (1 ∷ [])) ∷ []) ≡ false = rw holds_false in
+      true≢false (sym (h false_row (λ k. Null) false_row_lem no_session m) ∙ n)
 
 -- "It flags an emptied policy as an error. Removing an emptied restrictive policy would open the table.": every policy stays, and one that
 -- nobody meets stays as a policy without clauses, which nobody meets

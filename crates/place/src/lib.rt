@@ -1,7 +1,7 @@
 // The reading place, lent. A sheet's bytes come in; out go the head of a sheet (its counts) and the head of an atom (variable and operator),
 // each with the place after it, or a refusal number. "The reading place is one byte number and one bit number, and each field read moves it on"
-// (01, "The packed sheet"): `next_field` and `next_count` take the lent place apart, call a covered function on the slice and numbers, and
-// store the place that it answers; a refusal leaves the place unmoved. All judging is in covered functions. Stands on bits, meaning, values.
+// (01, "The packed sheet"): `next_field` and `next_count` call a function by value on the slice, the place and a number, and store the
+// place that it answers; a refusal leaves the place unmoved. All judging is in functions by value. Stands on bits, meaning, values.
 #![tactic(auto)]
 
 ghost use Rattle.std.specs.Prelude.{◌≡◌, ℕ, length, get_or};
