@@ -1,18 +1,17 @@
 // Runs the cases of data/ (its README has the format) through the public calls, and prints how many of each file came out as document 01 has them.
 #![tactic(auto)]
 
-ghost use Rattle.std.specs.Prelude.{◌≡◌, ◌<◌, length, take, IfOk};
+ghost use Rattle.std.specs.Prelude.{◌≡◌, length};
 ghost use Rattle.std.specs.Counts.{IsPrefixLen};
-ghost use Rattle.std.specs.Io.KnownBytes.{Consumes, IsAtEnd};
 
 use fiddlecomet::{
     fiddlecomet_branches, fiddlecomet_covers, fiddlecomet_dead, fiddlecomet_isolated,
     fiddlecomet_listing, fiddlecomet_normal_form,
 };
+use input::read_full;
 use script::{Word, behind, first, hex, next_line, number, word_at};
 use std::fs::File;
 use std::io;
-use std::io::Read;
 use std::rt::Files;
 
 // What every byte of a lent output is before a call.
@@ -326,23 +325,6 @@ fn space() -> [u8; 720000]
     ensures { 720000 ≡ length result }
 {
     [0; 720000]
-}
-
-// Reads until the buffer is full or the input ends: how many bytes stand at its start.
-fn read_full<R: Read>(input: &mut R, buf: &mut [u8]) -> io::Result<usize>
-    ensures counts { IfOk result (λ n. IsPrefixLen n buf.new) }
-    ensures bytes { IfOk result (λ n. Consumes (R.remaining input.old) (R.remaining input.new) (take n buf.new)) }
-    ensures end { IfOk result (λ n. n < length buf.new → IsAtEnd (R.remaining input.new)) }
-{
-    let mut done = 0;
-    while done < buf.len() {
-        let n = input.read(&mut buf[done..])?;
-        if n == 0 {
-            break;
-        }
-        done += n;
-    }
-    Ok(done)
 }
 
 // Runs the cases of the file of this name.

@@ -49,7 +49,8 @@ abbrev pub OtherMeets : Sheet → ℕ → Clause → Clause → Type 0
 OtherMeets sheet t a b = Both (held_by sheet t) sheet a b (λ m. m 16 ≡ m 24 → ⊥)
 
 pub record TellsPair (s : List ℕ) (d : Directory) (book : List ℕ) (q : Question) (words : List ℕ) (n b : ℕ) (r : Bool) : Type 0 where
-  pub tells : (sheet : Sheet) (t command : ℕ) (c : Clause) → Poses s d book q sheet t command → word_atoms words n ≡ map (seen false) c → Uses (held_by sheet t) sheet c → b < branch_count sheet t command →
+  pub tells : (sheet : Sheet) (t command : ℕ) (c : Clause) → Poses s d book q sheet t command →
+      word_atoms words n ≡ map (seen false) c → Uses (held_by sheet t) sheet c → b < branch_count sheet t command →
       Decides (OtherMeets sheet t c (branch_at sheet t command b)) r
 
 -- the first n atoms of the words stay as they were
@@ -62,8 +63,10 @@ Anchored branch c = (row one : Contents) → clause_met (with row one) branch �
 
 -- a branch marked 0 is met by nobody; one marked c + 2 has its tenant in column c
 pub record Marks (s : List ℕ) (d : Directory) (book : List ℕ) (q : Question) (marks : List ℕ) : Type 0 where
-  pub unmet : (sheet : Sheet) (t command k : ℕ) → Poses s d book q sheet t command → k < branch_count sheet t command → k < 256 → get_or marks k 0 ≡ 0 → Meets (held_by sheet t) sheet (branch_at sheet t command k) → ⊥
-  pub anchored : (sheet : Sheet) (t command k c : ℕ) → Poses s d book q sheet t command → k < branch_count sheet t command → k < 256 → get_or marks k 0 ≡ c + 2 → Anchored (branch_at sheet t command k) c
+  pub unmet : (sheet : Sheet) (t command k : ℕ) → Poses s d book q sheet t command →
+      k < branch_count sheet t command → k < 256 → get_or marks k 0 ≡ 0 → Meets (held_by sheet t) sheet (branch_at sheet t command k) → ⊥
+  pub anchored : (sheet : Sheet) (t command k c : ℕ) → Poses s d book q sheet t command →
+      k < branch_count sheet t command → k < 256 → get_or marks k 0 ≡ c + 2 → Anchored (branch_at sheet t command k) c
 
 -- the mark of branch k
 pub record TellsMark (s : List ℕ) (d : Directory) (book : List ℕ) (q : Question) (k r : ℕ) : Type 0 where
