@@ -21,7 +21,6 @@ use Rattle.meaning.specs.Allowed.{AtomAllowed}
 use Rattle.meaning.specs.Reading.{found, field, count, clause}
 use Rattle.meaning.proofs.ReadLaws.{read_split}
 use Rattle.meaning.proofs.FormLaws.{clause_reads}
-use Rattle.admission.specs.declared.Laid.{Laid}
 use Rattle.admission.specs.Plan.{operator_number_of, variable_of, other_of, operator_of_word, atom_of_word, size_of, clause_of_words, count_of, place_of, guard_of, guard_by, guard_met, sieve_of, sieve_met, ClauseLaid, LaidAt}
 use Rattle.admission.proofs.LaidLaws.{field_number, number_written, atom_laid}
 use Rattle.admission.proofs.SieveLaws.{asks_nothing}
@@ -134,25 +133,25 @@ module _ (facts : Sheet) (s : List ℕ) (short : length s ≤ 16384) (c : Clause
       (x.0, few, record { allowed = r.0.1; rest = x.1; laid = λ after same e. sym (λ t. clause_of_words (kind_of facts) s after (z t) (p + 4) (n t)) ∙ e; guards = λ e m. refl; sieves = λ e m. refl })
 
   module _ (k at g z : ℕ) (ws : List ℕ) (h : Laying facts s c q i (p + 4) k at g z ws) where
-    pub laying_on : (r : Laid) {next sieve : ℕ} → k < length c → i + k < length ws → LaidAt s at r → next ≡ cond (eqb (operator_number_of r.word) 0) (r.word / 16 % 1024) g →
-        ((kind : ℕ → Kind) (e : Contents) → sieve_met e z ≡ true → met e (atom_of_word kind s r.word at) ≡ true → sieve_met e sieve ≡ true) → Laying facts s c q i (p + 4) (k + 1) (at + r.size) next sieve (set ws (i + k) r.word)
-    laying_on r l room w is-next sifts =
+    pub laying_on : (r : ℕ) {size next sieve : ℕ} → k < length c → i + k < length ws → LaidAt s at r → size ≡ size_of r → next ≡ cond (eqb (operator_number_of r) 0) (r / 16 % 1024) g →
+        ((kind : ℕ → Kind) (e : Contents) → sieve_met e z ≡ true → met e (atom_of_word kind s r at) ≡ true → sieve_met e sieve ≡ true) → Laying facts s c q i (p + 4) (k + 1) (at + size) next sieve (set ws (i + k) r)
+    laying_on r l room w is-size is-next sifts =
         let e : drop k c ≡ get_or c k no_atom ∷ drop (k + 1) c = drop-cons c k no_atom l ∙ ap (λ j. get_or c k no_atom ∷ drop j c) (sym (add-one k)) in
         let a = subst (All (AtomAllowed facts)) e h.allowed in
         let x = atom_laid s facts (get_or c k no_atom) at q (each (atom_bits (kind_of facts)) (drop (k + 1) c)) r a.0 w (subst (λ xs. Written s at q (each (atom_bits (kind_of facts)) xs)) e h.rest) in
         let t : take (k + 1) c ≡ take k c ++ (get_or c k no_atom ∷ []) = ap (λ j. take j c) (add-one k) ∙ take-suc c k no_atom l in
         record {
           allowed = a.1;
-          rest = subst (λ m. Written s (at + m) q (each (atom_bits (kind_of facts)) (drop (k + 1) c))) (sym w.size) x.1;
-          laid = λ after same f. h.laid after (λ j m. same j (omega arith) ∙ get_or-set_other ws (i + k) j r.word 0 (λ z. omega arith)) (
-              let here : get_or after (i + k) 0 ≡ r.word = same (i + k) (omega arith) ∙ get_or-set_same ws (i + k) r.word 0 room in
+          rest = subst (λ m. Written s (at + m) q (each (atom_bits (kind_of facts)) (drop (k + 1) c))) (sym is-size) x.1;
+          laid = λ after same f. h.laid after (λ j m. same j (omega arith) ∙ get_or-set_other ws (i + k) j r 0 (λ z. omega arith)) (
+              let here : get_or after (i + k) 0 ≡ r = same (i + k) (omega arith) ∙ get_or-set_same ws (i + k) r 0 room in
               let next : i + k + 1 ≡ i + (k + 1) = omega arith in
               let left : length c - k - 1 ≡ length c - (k + 1) = omega arith in
               words_more (kind_of facts) s after (i + k) at (length c - k) (omega arith)
               ∙ (λ y. atom_of_word (kind_of facts) s (here y) at ∷ clause_of_words (kind_of facts) s after (next y) (at + size_of (here y)) (left y))
-              ∙ (λ y. x.0 y ∷ (ap (λ m. clause_of_words (kind_of facts) s after (i + (k + 1)) (at + m) (length c - (k + 1))) (sym w.size) ∙ f) y)
+              ∙ (λ y. x.0 y ∷ (ap (λ m. clause_of_words (kind_of facts) s after (i + (k + 1)) (at + m) (length c - (k + 1))) (sym is-size) ∙ f) y)
               ∙ sym e);
-          guards = λ e m. ap (guard_met e) is-next ∙ guard_more (kind_of facts) s g r.word at (take k c) h.guards e (ap (λ b. clause_met e (take k c ++ (b ∷ []))) x.0 ∙ sym (ap (clause_met e) t) ∙ m);
+          guards = λ e m. ap (guard_met e) is-next ∙ guard_more (kind_of facts) s g r at (take k c) h.guards e (ap (λ b. clause_met e (take k c ++ (b ∷ []))) x.0 ∙ sym (ap (clause_met e) t) ∙ m);
           sieves = λ e m. let y = last_met e (take k c) (get_or c k no_atom) (sym (ap (clause_met e) t) ∙ m) in sifts (kind_of facts) e (h.sieves e y.0) (ap (met e) x.0 ∙ y.1);
         }
 

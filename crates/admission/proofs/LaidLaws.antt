@@ -6,7 +6,7 @@ use mathlib.Core.Bool.{Bool, true, false, cond}
 use mathlib.Core.List.{List, [], ◌∷◌, ◌++◌, append_assoc}
 use lib.ListN.{length}
 use lib.Dec.{leb, lit≤}
-use borrow.Author.Tests.{leb-true, lt-ltb, le-ltb, eq-eqb, ne_eqb}
+use borrow.Author.Tests.{leb-true}
 use Rattle.lists.specs.Lists.{All, each}
 use Rattle.bits.specs.Bits.{number, bits}
 use Rattle.bits.proofs.BitLaws.{bits_length}
@@ -23,7 +23,6 @@ use Rattle.meaning.proofs.ReadLaws.{read_split, found_same}
 use Rattle.bits.proofs.StandLaws.{Written, written_split}
 use Rattle.meaning.proofs.CodecLaws.{reads_field}
 use Rattle.meaning.proofs.FormLaws.{value_reads}
-use Rattle.admission.specs.declared.Laid.{Laid}
 use Rattle.admission.specs.Plan.{value_at, values_at, operator_number_of, variable_of, other_of, operator_of_word, atom_of_word, size_by, size_of, other_at, LaidAt}
 
 -- a field that is read is the number at its place, within the bytes
@@ -110,65 +109,35 @@ module _ (s : List ℕ) where
   operand_laid facts v p q rest is_not_null a h = (refl, h)
 
   -- so a word laid at an atom that stands packed is that atom, and the rest stands behind it
-  pub atom_laid : (facts : Sheet) (a : Atom) (p q : ℕ) (rest : List ℕ) (r : Laid) → AtomAllowed facts a → LaidAt s p r → Written s p q (atom_bits (kind_of facts) a ++ rest) →
-      (atom_of_word (kind_of facts) s r.word p ≡ a) × Written s (p + size_of r.word) q rest
+  pub atom_laid : (facts : Sheet) (a : Atom) (p q : ℕ) (rest : List ℕ) (w : ℕ) → AtomAllowed facts a → LaidAt s p w → Written s p q (atom_bits (kind_of facts) a ++ rest) →
+      (atom_of_word (kind_of facts) s w p ≡ a) × Written s (p + size_of w) q rest
   unfolding atom_of_word operator_of_word size_of
-  atom_laid facts a p q rest r ok h w =
+  atom_laid facts a p q rest w ok h stands =
       let v = a.variable in
       let o = operator_number a.operator in
       let vs : v < 24 = ok.0.0 in
       let os = operator_small a.operator in
       let tail = bits 4 o ++ operand_bits (kind_of facts v) a.operator in
-      let x = number_written 5 v p q (tail ++ rest) (omega arith) (subst (Written s p q) (append_assoc (bits 5 v) tail rest) w) in
+      let x = number_written 5 v p q (tail ++ rest) (omega arith) (subst (Written s p q) (append_assoc (bits 5 v) tail rest) stands) in
       let y = number_written 4 o (p + 5) q (operand_bits (kind_of facts v) a.operator ++ rest) (omega arith) (subst (Written s (p + 5) q) (append_assoc (bits 4 o) (operand_bits (kind_of facts v) a.operator) rest) x.1) in
       let e : p + 5 + 4 ≡ p + 9 = omega arith in
       let z = operand_laid facts v p q rest a.operator ok.1 (subst (λ m. Written s m q (operand_bits (kind_of facts v) a.operator ++ rest)) e y.1) in
-      let op : operator_number_of r.word ≡ o = h.operator ∙ y.0 in
-      let var : variable_of r.word ≡ v = h.variable ∙ x.0 in
-      let oth : other_of r.word ≡ other_at s p o = h.other ∙ ap (other_at s p) y.0 in (
+      let op : operator_number_of w ≡ o = h.operator ∙ y.0 in
+      let var : variable_of w ≡ v = h.variable ∙ x.0 in
+      let oth : other_of w ≡ other_at s p o = h.other ∙ ap (other_at s p) y.0 in (
         (λ i. on (var i) (operator_of (op i) (oth i) (value_at (kind_of facts (var i)) s (p + 9)) (values_at (kind_of facts (var i)) s (p + 13) (oth i)))) ∙ ap (on v) z.0,
         subst (λ m. Written s (p + m) q rest) (sym (λ i. size_by (op i) (oth i))) z.1,
       )
 
 -- the parts of a word, as the code joins them
-module _ (s : List ℕ) (p v o n size word : ℕ) (is-v : v ≡ number s p 5) (is-o : o ≡ number s (p + 5) 4)
-    (parts : (operator_number_of word ≡ o % 16) × (variable_of word ≡ v % 32) × (other_of word ≡ n % 32)) where
-  laid_by : n < 32 → n ≡ other_at s p o → size ≡ size_by o n → LaidAt s p (record { word = word; size = size })
-  unfolding size_of
-  laid_by l a d =
-      let x = number_lt s p 5 in
-      let y = number_lt s (p + 5) 4 in
-      let op : operator_number_of word ≡ o = parts.0 ∙ omega arith in
-      let oth : other_of word ≡ n = parts.2 ∙ omega arith in
-      record {
-        operator = op ∙ is-o;
-        variable = parts.1 ∙ omega arith;
-        other = oth ∙ a ∙ ap (other_at s p) is-o;
-        size = d ∙ sym (λ i. size_by (op i) (oth i));
-      }
-
-  -- one way for each test of the code
-  pub laid_equals : o ≡ 0 → n ≡ number s (p + 9) 5 → size ≡ 14 → LaidAt s p (record { word = word; size = size })
-  laid_equals z a d =
-      let t = eq-eqb o 0 z in
-      laid_by (omega (arith, number_lt s (p + 9) 5)) (a ∙ simp t) (d ∙ simp t)
-
-  pub laid_list : (o ≡ 0 → ⊥) → o < 3 → n ≡ number s (p + 9) 4 → size ≡ 13 + 64 * n → LaidAt s p (record { word = word; size = size })
-  laid_list z l a d =
-      let t = ne_eqb o 0 z in
-      let u = lt-ltb o 3 l in
-      laid_by (omega (arith, number_lt s (p + 9) 4)) (a ∙ simp (t, u)) (d ∙ simp (t, u))
-
-  pub laid_bound : (o ≡ 0 → ⊥) → 3 ≤ o → o < 7 → n ≡ 0 → size ≡ 73 → LaidAt s p (record { word = word; size = size })
-  laid_bound z l m a d =
-      let t = ne_eqb o 0 z in
-      let u = le-ltb o 3 l in
-      let w = lt-ltb o 7 m in
-      laid_by (omega arith) (a ∙ simp (t, u)) (d ∙ simp (t, u, w))
-
-  pub laid_bare : (o ≡ 0 → ⊥) → 3 ≤ o → 7 ≤ o → n ≡ 0 → size ≡ 9 → LaidAt s p (record { word = word; size = size })
-  laid_bare z l m a d =
-      let t = ne_eqb o 0 z in
-      let u = le-ltb o 3 l in
-      let w = le-ltb o 7 m in
-      laid_by (omega arith) (a ∙ simp (t, u)) (d ∙ simp (t, u, w))
+pub laid_by : (s : List ℕ) (p v o n word : ℕ) → v ≡ number s p 5 → o ≡ number s (p + 5) 4 → n ≡ other_at s p o → n < 32
+    → (operator_number_of word ≡ o % 16) × (variable_of word ≡ v % 32) × (other_of word ≡ n % 32) → LaidAt s p word
+laid_by s p v o n word is-v is-o is-n l parts =
+    let x = number_lt s p 5 in
+    let y = number_lt s (p + 5) 4 in
+    let last : n % 32 ≡ n = omega arith in
+    record {
+      operator = parts.0 ∙ omega arith;
+      variable = parts.1 ∙ omega arith;
+      other = parts.2 ∙ last ∙ is-n ∙ ap (other_at s p) is-o;
+    }

@@ -7,11 +7,10 @@ use mathlib.Core.Path.{◌≡◌, refl, sym, ap, subst, ◌∙◌}
 use mathlib.Core.Bool.{Bool, true, false, cond, true≢false}
 use mathlib.Core.Logic.{◌⊎◌, inl, inr, ⊎_elim}
 use mathlib.Core.List.{List}
-use lib.ListN.{get_or}
 use lib.Dec.{ltb, eqb}
 use lib.Bits.{bit_or, or_comm, or_lt, or_shr, or_mod}
 use lib.Pow.{pow-lt, shl_exact, shl-shr}
-use borrow.Author.Tests.{lt-ltb, le-ltb, eq-eqb, ne_eqb, eqb-true, ltb-false}
+use borrow.Author.Tests.{eq-eqb, eqb-true, ltb-false}
 use Rattle.lists.specs.Lists.{any}
 use Rattle.bits.specs.Bits.{number, numbers}
 use Rattle.bits.proofs.SpellLaws.{spelled_none, spelled_later}
@@ -20,7 +19,6 @@ use Rattle.meaning.specs.declared.Content.TheVariants.{Null, Value}
 use Rattle.meaning.specs.Values.{Kind, integer, token, boolean, raw, Contents}
 use Rattle.meaning.specs.Atoms.{in_list, passes, met}
 use Rattle.meaning.specs.Views.{operator_of}
-use Rattle.rows.specs.Held.{held}
 use Rattle.admission.specs.Plan.{value_at, values_at, operator_number_of, variable_of, other_of, operator_of_word, atom_of_word, has_residue, is_sifted, sieve_by, sieve_met}
 use Rattle.admission.proofs.WordLaws.{among_bits}
 
@@ -66,25 +64,34 @@ module _ (set y : ℕ) where
       let one : bit / 2 ^ (y % 16) % 2 ≡ 1 = ap (λ b. b / 2 ^ (y % 16) % 2) bit_is ∙ ap (λ b. b % 2) (shl-shr 1 (y % 16)) in
       eq-eqb _ 1 (ap (λ b. b / 2 ^ (y % 16) % 2) (or_comm set bit) ∙ or_bit bit set (y % 16) one)
 
--- a turn of gathering: a number of the list has its residue in the set, or it is among those that are left
-abbrev pub Gathers : List ℕ → (from n set p left : ℕ) → Type 0
-Gathers s from n set p left = (x : ℕ) → any (eqb x) (numbers s from n) ≡ true → (has_residue set x ≡ true) ⊎ (any (eqb x) (numbers s p left) ≡ true)
+-- a turn of gathering: a number of the list has its residue in the set, or it is among those from number i on
+abbrev pub Gathers : List ℕ → (from n set i : ℕ) → Type 0
+Gathers s from n set i = (x : ℕ) → any (eqb x) (numbers s from n) ≡ true → (has_residue set x ≡ true) ⊎ (any (eqb x) (numbers s (from + 64 * i) (n - i)) ≡ true)
 
 module _ (s : List ℕ) (from n : ℕ) where
-  pub gathers_starts : Gathers s from n 0 from n
-  gathers_starts x m = inr m
+  pub gathers_starts : Gathers s from n 0 0
+  gathers_starts x m =
+      let p : from ≡ from + 64 * 0 = omega arith in
+      let l : n ≡ n - 0 = omega arith in
+      inr ((λ t. any (eqb x) (numbers s (sym p t) (sym l t))) ∙ m)
 
-  module _ (set p left : ℕ) (h : Gathers s from n set p left) where
-    pub gathers_on : {y : ℕ} → 0 < left → y ≡ number s p 64 → Gathers s from n (bit_or set (bit set y)) (p + 64) (left - 1)
+  module _ (set i : ℕ) (h : Gathers s from n set i) where
+    pub gathers_on : {y : ℕ} → i < n → y ≡ number s (from + 64 * i) 64 → Gathers s from n (bit_or set (bit set y)) (i + 1)
     gathers_on {y} l is x m = go (ℕ_discrete x y) (h x m)
       where
-        go : Dec (x ≡ y) → (has_residue set x ≡ true) ⊎ (any (eqb x) (numbers s p left) ≡ true) → (has_residue (bit_or set (bit set y)) x ≡ true) ⊎ (any (eqb x) (numbers s (p + 64) (left - 1)) ≡ true)
+        next : any (eqb x) (numbers s (from + 64 * i + 64) (n - i - 1)) ≡ any (eqb x) (numbers s (from + 64 * (i + 1)) (n - (i + 1)))
+        next =
+            let p : from + 64 * i + 64 ≡ from + 64 * (i + 1) = omega arith in
+            let q : n - i - 1 ≡ n - (i + 1) = omega arith in
+            (λ t. any (eqb x) (numbers s (p t) (q t)))
+
+        go : Dec (x ≡ y) → (has_residue set x ≡ true) ⊎ (any (eqb x) (numbers s (from + 64 * i) (n - i)) ≡ true) → (has_residue (bit_or set (bit set y)) x ≡ true) ⊎ (any (eqb x) (numbers s (from + 64 * (i + 1)) (n - (i + 1))) ≡ true)
         go d (inl a) = inl (set_keeps set y x a)
         go (yes e) (inr a) = inl (ap (has_residue (bit_or set (bit set y))) e ∙ set_has set y)
-        go (no e) (inr a) = inr (sym (spelled_later s x p left l (λ f. e (f ∙ sym is))) ∙ a)
+        go (no e) (inr a) = inr (sym next ∙ sym (spelled_later s x (from + 64 * i) (n - i) (omega arith) (λ f. e (f ∙ sym is))) ∙ a)
 
-    pub gathers_ends : left ≤ 0 → (x : ℕ) → any (eqb x) (numbers s from n) ≡ true → has_residue set x ≡ true
-    gathers_ends l x m = ⊎_elim (λ a. a) (λ a. absurd (true≢false (sym a ∙ spelled_none s x p left l))) (h x m)
+    pub gathers_ends : n ≤ i → (x : ℕ) → any (eqb x) (numbers s from n) ≡ true → has_residue set x ≡ true
+    gathers_ends l x m = ⊎_elim (λ a. a) (λ a. absurd (true≢false (sym a ∙ spelled_none s x (from + 64 * i) (n - i) (omega arith)))) (h x m)
 
 pub asks_nothing : (b : Bool) → cond b true true ≡ true
 asks_nothing true = refl
@@ -109,18 +116,3 @@ module _ (kind : ℕ → Kind) (e : Contents) (s : List ℕ) (w p set : ℕ) (ha
       let z : (variable_of w + 32 * set) / 32 ≡ set = omega arith in
       let a : is_sifted set (e (variable_of w)) ≡ true = passes_sieve (e (variable_of w)) (ap (λ n. passes e (operator_of n (other_of w) (value_at k s (p + 9)) listed) (e (variable_of w))) (sym o) ∙ m) in
       (λ i. sieve_by e (v i) (z i)) ∙ ap (λ b. cond (ltb (variable_of w) 24) b true) a ∙ asks_nothing (ltb (variable_of w) 24)
-
--- a sieve, by what the arrays hold of its variable
-module _ (present values : List ℕ) (v set : ℕ) where
-  pub no_sieve : 24 ≤ v → true ≡ sieve_by (held present values) v set
-  no_sieve l = sym (ap (λ b. cond b (is_sifted set (held present values v)) true) (le-ltb v 24 l))
-
-  module _ (l : v < 24) where
-    by_cell : {a r : Bool} → eqb (get_or present v 0) 0 ≡ a → r ≡ is_sifted set (cond a Null (Value (get_or values v 0))) → r ≡ sieve_by (held present values) v set
-    by_cell h g = g ∙ sym ((λ i. cond (lt-ltb v 24 l i) (is_sifted set (cond (h i) Null (Value (get_or values v 0)))) true))
-
-    pub sieve_null : get_or present v 0 ≡ 0 → false ≡ sieve_by (held present values) v set
-    sieve_null h = by_cell (eq-eqb (get_or present v 0) 0 h) refl
-
-    pub sieve_value : (get_or present v 0 ≡ 0 → ⊥) → {r : Bool} → r ≡ has_residue set (get_or values v 0) → r ≡ sieve_by (held present values) v set
-    sieve_value h g = by_cell (ne_eqb (get_or present v 0) 0 h) g

@@ -3,9 +3,8 @@ use Prim.Native.Nat.{ℕ, zero, suc, ◌+◌, ◌<◌, ◌≤◌}
 use native.Mathlib.Decide.{dec_lt}
 use native.Mathlib.Omega.{arith}
 use mathlib.Core.Path.{◌≡◌, refl, sym, ap, ◌∙◌}
-use mathlib.Core.Bool.{Bool, true, false, cond, not, ◌||◌}
+use mathlib.Core.Bool.{Bool, true, false, not, ◌||◌}
 use mathlib.Core.List.{List}
-use lib.ListN.{get_or}
 use lib.Dec.{ltb, eqb}
 use borrow.Author.Tests.{lt-ltb, le-ltb, eq-eqb, ne_eqb, eqb-true}
 use Rattle.lists.specs.Lists.{any}
@@ -14,13 +13,11 @@ use Rattle.bits.specs.Bits.{number, numbers}
 use Rattle.meaning.specs.declared.Content.{Content}
 use Rattle.meaning.specs.declared.Content.TheVariants.{Null, Value}
 use Rattle.meaning.specs.Values.{Kind, raw, Contents}
-use Rattle.meaning.specs.Atoms.{equals, among, is_value, passes, met}
-use Rattle.meaning.specs.Steps.{on}
+use Rattle.meaning.specs.Atoms.{among, is_value, passes, met}
 use Rattle.meaning.specs.Views.{operator_of}
 use Rattle.meaning.proofs.FormLaws.{raw_raw}
 use Rattle.meaning.proofs.ViewLaws.{null_passes}
-use Rattle.rows.specs.Held.{held}
-use Rattle.admission.specs.Plan.{value_at, values_at, operator_number_of, variable_of, other_of, operator_of_word, atom_of_word, guard_by}
+use Rattle.admission.specs.Plan.{value_at, values_at, operator_number_of, variable_of, other_of, operator_of_word, atom_of_word}
 
 -- a value is among values exactly when its bits are among theirs
 bits_same : (k : Kind) (x y : ℕ) → eqb (raw k x) y ≡ eqb x (raw k y)
@@ -78,51 +75,10 @@ module _ (kind : ℕ → Kind) (e : Contents) (s : List ℕ) (w p x : ℕ) where
   unfolding operator_of_word
   word_equals h o g = word_value h (g ∙ order_passes e x (other_of w) _ _ 0 o)
 
--- an equality of what two variables hold, each null or a value
-equals_by : (e : Contents) (u : ℕ) (a b : Bool) (x y : ℕ) {c : Content} → c ≡ cond a Null (Value x) → e u ≡ cond b Null (Value y) → passes e (equals u) c ≡ cond a false (cond b false (eqb x y))
-equals_by e u true b x y h k = ap (passes e (equals u)) h
-equals_by e u false true x y h k = ap (passes e (equals u)) h ∙ ap (is_value x) k
-equals_by e u false false x y h k = ap (passes e (equals u)) h ∙ ap (is_value x) k
-
--- a guard, by what the arrays hold of its variables
-module _ (present values : List ℕ) (v u : ℕ) where
-  abbrev x : ℕ
-  x = get_or values v 0
-
-  abbrev y : ℕ
-  y = get_or values u 0
-
-  pub no_guard : 24 ≤ v → true ≡ guard_by (held present values) v u
-  no_guard l = sym (ap (λ b. cond b (met (held present values) (on v (equals u))) true) (le-ltb v 24 l))
-
-  module _ (l : v < 24) where
-    by_equality : {r : Bool} → r ≡ met (held present values) (on v (equals u)) → r ≡ guard_by (held present values) v u
-    by_equality h = h ∙ sym (ap (λ b. cond b (met (held present values) (on v (equals u))) true) (lt-ltb v 24 l))
-
-    by_cells : {a b c r : Bool} → eqb (get_or present v 0) 0 ≡ a → eqb (get_or present u 0) 0 ≡ b → eqb x y ≡ c → r ≡ cond a false (cond b false c) → r ≡ guard_by (held present values) v u
-    by_cells h k m g = by_equality (g ∙ sym (equals_by (held present values) u (eqb (get_or present v 0) 0) (eqb (get_or present u 0) 0) x y refl refl ∙ (λ i. cond (h i) false (cond (k i) false (m i)))))
-
-    pub guard_past : held present values u ≡ Null → false ≡ guard_by (held present values) v u
-    guard_past n = by_equality (sym (go (held present values v)))
-      where
-        go : (c : Content) → passes (held present values) (equals u) c ≡ false
-        go Null = refl
-        go (Value m) = ap (is_value m) n
-
-    pub guard_null : get_or present v 0 ≡ 0 → false ≡ guard_by (held present values) v u
-    guard_null h = by_cells (eq-eqb (get_or present v 0) 0 h) refl refl refl
-
-    pub guard_differs : (x ≡ y → ⊥) → false ≡ guard_by (held present values) v u
-    guard_differs h = by_cells refl refl (ne_eqb x y h) (go (eqb (get_or present v 0) 0) (eqb (get_or present u 0) 0))
-      where
-        go : (a b : Bool) → false ≡ cond a false (cond b false false)
-        go true b = refl
-        go false true = refl
-        go false false = refl
-
-    pub guard_same : (get_or present v 0 ≡ 0 → ⊥) → x ≡ y → {r : Bool} → r ≡ not (eqb (get_or present u 0) 0) → r ≡ guard_by (held present values) v u
-    guard_same h k g = by_cells (ne_eqb (get_or present v 0) 0 h) refl (eq-eqb x y k) (g ∙ go (eqb (get_or present u 0) 0))
-      where
-        go : (b : Bool) → not b ≡ cond b false true
-        go true = refl
-        go false = refl
+-- what holds a value is a variable
+pub is_variable : (v : ℕ) {x : Content} {n : ℕ} → (24 ≤ v → x ≡ Null) → x ≡ Value n → v < 24
+is_variable v {x} {n} past is = go (dec_lt v 24)
+  where
+    go : Dec (v < 24) → v < 24
+    go (yes l) = l
+    go (no l) = let h : Null ≡ Value n = sym (past (omega arith)) ∙ is in absurd (cc)

@@ -4,11 +4,11 @@ use Rattle.std.specs.Prelude.{ℕ, zero, suc, ◌+◌, ◌-◌, ◌*◌, ◌/◌
 use Rattle.bits.specs.Bits.{number}
 use Rattle.meaning.specs.declared.Content.{Content}
 use Rattle.meaning.specs.declared.Content.TheVariants.{Null, Value}
-use Rattle.meaning.specs.Values.{Kind, raw, Contents}
+use Rattle.meaning.specs.Values.{Kind, kind_number, raw, Contents}
 use Rattle.meaning.specs.Atoms.{Operator, equals, Atom, Clause, met, clause_met}
 use Rattle.meaning.specs.Steps.{on}
 use Rattle.meaning.specs.Views.{operator_of}
-use Rattle.admission.specs.declared.Laid.{Laid}
+use Rattle.admission.specs.declared.plan.Plan.{Plan}
 
 -- a value of a kind at a bit number, and n of them
 abbrev pub value_at : Kind → List ℕ → ℕ → ℕ
@@ -48,6 +48,10 @@ size_of w = size_by (operator_number_of w) (other_of w)
 unfoldable pub clause_of_words : (ℕ → Kind) → List ℕ → List ℕ → (i p n : ℕ) → Clause
 clause_of_words kind s ws i p zero = []
 clause_of_words kind s ws i p (suc n) = atom_of_word kind s (get_or ws i 0) p ∷ clause_of_words kind s ws (i + 1) (p + size_of (get_or ws i 0)) n
+
+-- the kinds of the variables, by their numbers
+abbrev pub Kinds : (ℕ → Kind) → List ℕ → Type 0
+Kinds kind kinds = (v : ℕ) → v < 24 → kind_number (kind v) ≡ get_or kinds v 0
 
 -- a clause's head has its count of atoms (4 bits, the lowest), the bit number of its first atom (18), a guard (10), and a
 -- sieve (21)
@@ -114,9 +118,9 @@ pub record PoliciesLaid (kind : ℕ → Kind) (s ws heads counts : List ℕ) (n 
   pub each : (i : ℕ) → i < n → ClausesLaid kind s ws heads (slot_of i) (slot_of i + get_or counts i 0) (get_or ps i [])
 
 -- a plan: the permissive policies' clauses, one of which must be met, from slot 0 on; the restrictive policies, each of which must be met
-pub record PlanLaid (kind : ℕ → Kind) (s ws heads counts : List ℕ) (some all : ℕ) (cs : List Clause) (ps : List (List Clause)) : Type 0 where
-  pub permissive : ClausesLaid kind s ws heads 0 some cs
-  pub restrictive : PoliciesLaid kind s ws heads counts all ps
+pub record PlanLaid (kind : ℕ → Kind) (s : List ℕ) (plan : Plan) (cs : List Clause) (ps : List (List Clause)) : Type 0 where
+  pub permissive : ClausesLaid kind s plan.words plan.heads 0 plan.some cs
+  pub restrictive : PoliciesLaid kind s plan.words plan.heads plan.counts plan.all ps
 
 -- what stands outside the numbers `from` up to `end` is as it was
 pub record Outside (from end : ℕ) (before after : List ℕ) : Type 0 where
@@ -127,9 +131,8 @@ pub record Outside (from end : ℕ) (before after : List ℕ) : Type 0 where
 abbrev pub other_at : List ℕ → ℕ → ℕ → ℕ
 other_at s p op = cond (eqb op 0) (number s (p + 9) 5) (cond (ltb op 3) (number s (p + 9) 4) 0)
 
--- the word laid for the atom at bit number p, and how many bits it has
-pub record LaidAt (s : List ℕ) (p : ℕ) (r : Laid) : Type 0 where
-  pub operator : operator_number_of r.word ≡ number s (p + 5) 4
-  pub variable : variable_of r.word ≡ number s p 5
-  pub other : other_of r.word ≡ other_at s p (number s (p + 5) 4)
-  pub size : r.size ≡ size_of r.word
+-- the word laid for the atom at bit number p
+pub record LaidAt (s : List ℕ) (p word : ℕ) : Type 0 where
+  pub operator : operator_number_of word ≡ number s (p + 5) 4
+  pub variable : variable_of word ≡ number s p 5
+  pub other : other_of word ≡ other_at s p (number s (p + 5) 4)

@@ -6,15 +6,24 @@
 // numbers stand for.
 #![tactic(auto)]
 
+ghost use Rattle.std.specs.Prelude.{◌≡◌, ◌≤◌};
+ghost use Rattle.admission.specs.Plan.{size_of};
+
 pub mod laying;
 pub mod meeting;
+pub mod plan;
 
 pub use laying::lay_clause;
-pub use meeting::is_admitted;
+pub use plan::Plan;
 
-// A word with the number of bits of its atom.
-#[derive(Clone, Copy)]
-pub struct Laid {
-    pub word: u16,
-    pub size: usize,
+// How many bits the word's atom has.
+fn size_of(w: u16) -> usize
+    ensures { (result ≡ size_of w) × (result ≤ 2048) }
+{
+    match w % 16 {
+        0 => 14,
+        1 | 2 => 13 + 64 * usize::from(w / 512 % 32),
+        3..=6 => 73,
+        _ => 9,
+    }
 }

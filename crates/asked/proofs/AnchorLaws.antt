@@ -1,5 +1,5 @@
 -- What an equality of a column with key 0 says of whoever meets it, and that it keeps the tenants of two branches the same.
-use Prim.Native.Nat.{ℕ, zero, suc, ◌+◌, ◌*◌, ◌%◌, ◌<◌, ◌≤◌}
+use Prim.Native.Nat.{ℕ, zero, suc, ◌+◌, ◌*◌, ◌%◌, ◌<◌}
 use native.Mathlib.Omega.{arith}
 use native.Mathlib.Decide.{dec_lt}
 use mathlib.Core.Path.{◌≡◌, sym, ap, ◌∙◌}
@@ -43,11 +43,9 @@ one_met words (suc n) i m l h = go (dec_lt i n) (one_met words n i m)
     go (yes k) ih = ih k x.0
     go (no k) ih = let e : i ≡ n = omega arith in ap (λ j. met m (word_atom words j)) e ∙ (both (met m (word_atom words n)) true x.1).0
 
-pub anchors_at : (words : List ℕ) (n i r : ℕ) → i < n → (1 ≤ r) × (r ≤ 17) × ((c : ℕ) (m : Contents) → r ≡ c + 2 → met m (word_atom words i) ≡ true → m c ≡ m 16) → Anchors words n r
-anchors_at words n i r l h = record { some = h.0; column = h.1; same = λ c m e k. h.2 c m e (one_met words n i m l k) }
-
-pub anchors_none : (words : List ℕ) (n : ℕ) → Anchors words n 1
-anchors_none words n = record { some = omega arith; column = omega arith; same = λ c m e k. absurd (omega arith) }
+pub anchors_at : (words : List ℕ) (n i c : ℕ) → i < n → (c < 16) × ((m : Contents) → met m (word_atom words i) ≡ true → m c ≡ m 16) → Anchors words n (c + 2)
+anchors_at words n i c l h =
+    record { some = omega arith; column = (let q = h.0 in omega arith); same = λ d m e k. ap m (let q : d ≡ c = omega arith in q) ∙ h.1 m (one_met words n i m l k) }
 
 -- a row and session that meet a laid clause hold the same in the column marked and in key 0
 pub anchored_so : (held : ℕ → Bool) (sheet : Sheet) (words : List ℕ) (n r c : ℕ) (a : Clause) → Anchors words n r → r ≡ c + 2 → word_atoms words n ≡ map (seen false) a → Uses held sheet a →

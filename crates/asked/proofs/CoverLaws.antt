@@ -1,6 +1,7 @@
 -- A clause is covered where each of its atoms is implied, free of code. Assumes nothing.
 use Prim.Native.Nat.{ℕ, zero, suc, ◌+◌, ◌<◌}
 use native.Mathlib.Omega.{arith}
+use Rattle.std.proofs.Common.{min}
 use native.Mathlib.Nat.{not-suc-le-zero}
 use mathlib.Core.Path.{◌≡◌, refl, sym, ◌∙◌, ap, subst}
 use mathlib.Core.Bool.{Bool, true, false}
@@ -17,9 +18,8 @@ use Rattle.meaning.specs.Questions.{ClauseCovers}
 use Rattle.meaning.specs.declared.Atom.{Atom}
 use Rattle.meaning.specs.declared.Clause.{Clause}
 use Rattle.meaning.specs.Views.{atom_of, clause_of}
-use Rattle.asked.specs.Words.{up_to8}
 use Rattle.asked.specs.Asked.{Ranges, There, Uses, every_column, Tells}
-use Rattle.asked.proofs.Laying.{take_8, up_to8_le}
+use Rattle.asked.proofs.Laying.{take_8}
 use Rattle.lists.proofs.BoolLaws.{both, join}
 use Rattle.asked.proofs.Sense.{append_every}
 use Rattle.asked.proofs.Ways.{Covered, answer_yes, answer_no}
@@ -52,7 +52,7 @@ implied_more top xs q i d r l e h g =
           ((h sheet k (us.1.0, v)).yes e row session a b c));
     }
 
-pub implied_all : (top : List ℕ) (p : Clause) (q : m.Clause) (i n : ℕ) → length p.atoms ≡ 8 → i ≡ n → n ≡ up_to8 p.count → Implied top p.atoms q i → Tells top (clause_of p ++ q) (λ sheet. ClauseCovers sheet (clause_of p) q) true
+pub implied_all : (top : List ℕ) (p : Clause) (q : m.Clause) (i n : ℕ) → length p.atoms ≡ 8 → i ≡ n → n ≡ min p.count 8 → Implied top p.atoms q i → Tells top (clause_of p ++ q) (λ sheet. ClauseCovers sheet (clause_of p) q) true
 implied_all top p q i n len e f g sheet k u =
     let z : take i p.atoms ≡ take p.count p.atoms = ap (λ (j : ℕ). take j p.atoms) (e ∙ f) ∙ take_8 p.count p.atoms len in
     let h = subst (λ ys. Uses (every_column sheet) sheet (map atom_of ys) → Uses (every_column sheet) sheet q → ClauseCovers sheet (map atom_of ys) q) z (g.each sheet k) in
@@ -69,11 +69,10 @@ pub all_met : (e : Contents) (c : m.Clause) → clause_met e c ≡ true → All 
 all_met e [] h = tt
 all_met e (a ∷ c) h = let g = both (met e a) (clause_met e c) h in (g.0, all_met e c g.1)
 
-pub implied_not : (top : List ℕ) (p : Clause) (q : m.Clause) (i n : ℕ) (d : Atom) (r : Bool) → length p.atoms ≡ 8 → i < n → n ≡ up_to8 p.count → r ≡ false → Covered top q (atom_of (get_or p.atoms i d)) r → Tells top (clause_of p ++ q) (λ sheet. ClauseCovers sheet (clause_of p) q) false
+pub implied_not : (top : List ℕ) (p : Clause) (q : m.Clause) (i n : ℕ) (d : Atom) (r : Bool) → length p.atoms ≡ 8 → i < n → n ≡ min p.count 8 → r ≡ false → Covered top q (atom_of (get_or p.atoms i d)) r → Tells top (clause_of p ++ q) (λ sheet. ClauseCovers sheet (clause_of p) q) false
 implied_not top p q i n d r len l f e h sheet k u =
     let z : take n p.atoms ≡ take p.count p.atoms = ap (λ (j : ℕ). take j p.atoms) f ∙ take_8 p.count p.atoms len in
     let us = uses_parts (every_column sheet) sheet (clause_of p) q u in
-    let n8 = up_to8_le p.count in
     let w = all_at (λ a. All (There (every_column sheet) sheet) (a.variable ∷ sheets.second a.operator)) atom_of p.atoms n i d l (omega arith) (subst (λ ys. Uses (every_column sheet) sheet (map atom_of ys)) (sym z) us.0) in
     answer_no
     (λ c.

@@ -3,26 +3,21 @@ use Prim.Native.Nat.{ℕ, zero, suc, ◌+◌, ◌*◌, ◌%◌, ◌≤◌, ◌<�
 use native.Mathlib.Omega.{arith}
 use mathlib.Core.Path.{◌≡◌, refl, sym, ◌∙◌, ap}
 use mathlib.Core.Bool.{Bool, true, false, cond, ◌&&◌}
-use mathlib.Core.List.{List, [], ◌∷◌, ◌++◌, map, append_assoc, append-nil, map-append}
+use mathlib.Core.List.{List, [], ◌∷◌, ◌++◌, map}
 use lib.ListN.{length, get_or, set, length-set, length-map, take}
-use lib.Seq.{take_all, take-suc, get_or-set_same, get_or-set_other}
-use borrow.Author.Count.{below_more}
-use lib.Dec.{leb, ltb, eqb}
-use borrow.Author.Tests.{ltb-true, ltb-false, lt-ltb, le-ltb, le-leb, lt-leb, eq-eqb, ne_eqb}
+use lib.Seq.{get_or-set_same, get_or-set_other}
+use Rattle.std.proofs.Common.{min}
+use Rattle.std.proofs.lemmas.List.{take_min}
+use lib.Dec.{leb, eqb}
+use borrow.Author.Tests.{le-leb, lt-leb}
 use Rattle.meaning.specs.Atoms.{at_most, at_least, is_below, is_above, equals, in_list, not_in_list, order, is_null, is_not_null}
 use Rattle.meaning.specs.Steps.{on}
 use Rattle.meaning.specs.declared.Atom.{Atom}
-use Rattle.meaning.specs.declared.Clause.{Clause}
-use Rattle.meaning.specs.Views.{operator_of, atom_of, clause_of, test_of}
-use Rattle.asked.specs.Words.{numbers_at, word_atom, word_atoms, slot_of, seen_by, seen, up_to8, third_of}
+use Rattle.meaning.specs.Views.{operator_of, atom_of, test_of}
+use Rattle.asked.specs.Words.{numbers_at, word_atom, word_atoms, slot_of, seen_by, seen, third_of}
 
 pub both : {A B C : Type 0} (f : A → B → C) {a a' : A} {b b' : B} → a ≡ a' → b ≡ b' → f a b ≡ f a' b'
 both f p q = λ j. f (p j) (q j)
-
--- one more element of a list that grows at n
-pub grow_new : (f : ℕ → ℕ) (vals : List ℕ) (n k x : ℕ) → n + k < length vals → ((j : ℕ) → j < k → get_or vals (n + j) 0 ≡ f j) → x ≡ f k → (j : ℕ) → j < k + 1 → get_or (set vals (n + k) x) (n + j) 0 ≡ f j
-grow_new f vals n k x l h e =
-    below_more (λ j. get_or (set vals (n + k) x) (n + j) 0 ≡ f j) k (λ j d. get_or-set_other vals (n + k) (n + j) x 0 (omega arith) ∙ h j d) (get_or-set_same vals (n + k) x 0 l ∙ e)
 
 at : (s : List ℕ) (i j : ℕ) → i ≡ j → get_or s i 0 ≡ get_or s j 0
 at s i j e = ap (λ (k : ℕ). get_or s k 0) e
@@ -39,21 +34,11 @@ take_numbers (suc n) [] l = absurd (omega arith)
 take_numbers (suc n) (x ∷ xs) l =
     ap (λ ys. x ∷ ys) (take_numbers n xs (omega arith) ∙ numbers_same xs (x ∷ xs) 0 1 n (λ k l. at xs (0 + k) k (omega arith) ∙ at (x ∷ xs) (suc k) (1 + k) (omega arith)))
 
-first_8 : (n : ℕ) (xs : List ℕ) → length xs ≡ 8 → take n xs ≡ numbers_at xs 0 (up_to8 n)
-unfolding up_to8
-first_8 n xs e = go (ltb n 8) refl
-  where
-    go : (b : Bool) → ltb n 8 ≡ b → take n xs ≡ numbers_at xs 0 (cond b n 8)
-    go true q = let l = ltb-true n 8 q in take_numbers n xs (omega arith)
-    go false q = let l = ltb-false n 8 q in take_all n xs (omega arith) ∙ sym (take_all 8 xs (omega arith)) ∙ take_numbers 8 xs (omega arith)
+pub take_8 : {A : Type 0} (count : ℕ) (xs : List A) → length xs ≡ 8 → take (min count 8) xs ≡ take count xs
+take_8 count xs len = ap (λ (k : ℕ). take (min count k) xs) (sym len) ∙ take_min count xs
 
-pub up_to8_le : (n : ℕ) → up_to8 n ≤ 8
-unfolding up_to8
-up_to8_le n = go (ltb n 8) refl
-  where
-    go : (b : Bool) → ltb n 8 ≡ b → cond b n 8 ≤ 8
-    go true q = let l = ltb-true n 8 q in omega arith
-    go false q = omega arith
+first_8 : (n : ℕ) (xs : List ℕ) → length xs ≡ 8 → take n xs ≡ numbers_at xs 0 (min n 8)
+first_8 n xs e = sym (take_8 n xs e) ∙ take_numbers (min n 8) xs (omega arith)
 
 pub slot_lt : (second : Bool) (v : ℕ) → slot_of second v < 32
 unfolding slot_of
@@ -81,7 +66,7 @@ operator_seen op w other count n ns ms second e f g = go (eqb op 0) refl
 
     go : (b : Bool) → eqb op 0 ≡ b → operator_of op (w % 32) n ns ≡ seen_by second (operator_of op other (get_or ms 0 0) (take count ms))
     go true q =
-        let d : w ≡ slot_of second other = e ∙ ap (λ (b : Bool). cond b (slot_of second other) (up_to8 count)) q in
+        let d : w ≡ slot_of second other = e ∙ ap (λ (b : Bool). cond b (slot_of second other) (min count 8)) q in
         let l = slot_lt second other in
         let r : w % 32 ≡ slot_of second other = omega arith in
         ap (λ (b : Bool). cond b (equals (w % 32)) (test_of op n ns)) q ∙ ap equals r
@@ -120,10 +105,9 @@ laid old new n a second len h e0 e1 e2 vs =
     let x : get_or new (n * 11 + 3) 0 ≡ get_or a.values 0 0 = at new (n * 11 + 3) (n * 11 + 3 + 0) (omega arith) ∙ vs 0 (omega arith) in
     let ns : eqb a.operator 0 ≡ false → numbers_at new (n * 11 + 3) (get_or new (n * 11 + 2) 0 % 9) ≡ take a.count a.values =
     (λ q.
-    let c : get_or new (n * 11 + 2) 0 ≡ up_to8 a.count = e2 ∙ ap (λ (b : Bool). cond b (slot_of second a.other) (up_to8 a.count)) q in
-    let l = up_to8_le a.count in
-    let d : get_or new (n * 11 + 2) 0 % 9 ≡ up_to8 a.count = omega arith in
-    ap (numbers_at new (n * 11 + 3)) d ∙ numbers_same new a.values (n * 11 + 3) 0 (up_to8 a.count) (λ k g. vs k (omega arith) ∙ at a.values k (0 + k) (omega arith)) ∙ sym (first_8 a.count a.values len)) in
+    let c : get_or new (n * 11 + 2) 0 ≡ min a.count 8 = e2 ∙ ap (λ (b : Bool). cond b (slot_of second a.other) (min a.count 8)) q in
+    let d : get_or new (n * 11 + 2) 0 % 9 ≡ min a.count 8 = omega arith in
+    ap (numbers_at new (n * 11 + 3)) d ∙ numbers_same new a.values (n * 11 + 3) 0 (min a.count 8) (λ k g. vs k (omega arith) ∙ at a.values k (0 + k) (omega arith)) ∙ sym (first_8 a.count a.values len)) in
     let o =
     ap (λ (op : ℕ). operator_of op (get_or new (n * 11 + 2) 0 % 32) (get_or new (n * 11 + 3) 0) (numbers_at new (n * 11 + 3) (get_or new (n * 11 + 2) 0 % 9))) e1
     ∙ operator_seen a.operator (get_or new (n * 11 + 2) 0) a.other a.count (get_or new (n * 11 + 3) 0) (numbers_at new (n * 11 + 3) (get_or new (n * 11 + 2) 0 % 9)) a.values second e2 x ns in
@@ -137,18 +121,6 @@ pub slot_column : (second : Bool) (v : ℕ) → v < 16 → v % 32 ≡ slot_of se
 unfolding slot_of
 slot_column true v l = sym (ap (λ (b : Bool). cond b ((v % 32 + 8) % 32) (v % 32)) (lt-leb 16 v l))
 slot_column false v l = refl
-
-pub slot_plain : (second : Bool) (v : ℕ) → second ≡ false → v % 32 ≡ slot_of second v
-unfolding slot_of
-slot_plain second v e = sym (ap (λ (b : Bool). cond (b && leb 16 v) ((v % 32 + 8) % 32) (v % 32)) e)
-
-pub few : (n : ℕ) → n < 8 → n ≡ up_to8 n
-unfolding up_to8
-few n l = sym (ap (λ (b : Bool). cond b n 8) (lt-ltb n 8 l))
-
-pub many : (n : ℕ) → 8 ≤ n → 8 ≡ up_to8 n
-unfolding up_to8
-many n l = sym (ap (λ (b : Bool). cond b n 8) (le-ltb n 8 l))
 
 -- the same, from what the code wrote
 pub laid_so : (old words : List ℕ) (n : ℕ) (a : Atom) (second : Bool) (x y : ℕ) → length a.values ≡ 8 → n * 11 + 11 ≤ length old → x ≡ slot_of second a.variable → y ≡ third_of a.operator a.other a.count second →
@@ -168,12 +140,6 @@ laid_so old words n a second x y len l ex ey h vs =
     off1 : (i : ℕ) → (i ≡ n * 11 + 1 → ⊥) → get_or (set (set old (n * 11) x) (n * 11 + 1) a.operator) i 0 ≡ get_or (set old (n * 11) x) i 0
     off1 i ne = get_or-set_other (set old (n * 11) x) (n * 11 + 1) i a.operator 0 ne
 
-pub third_other : (op other count r : ℕ) (second : Bool) → op ≡ 0 → r ≡ slot_of second other → r ≡ third_of op other count second
-third_other op other count r second z e = e ∙ sym (ap (λ (b : Bool). cond b (slot_of second other) (up_to8 count)) (eq-eqb op 0 z))
-
-pub third_count : (op other count r : ℕ) (second : Bool) → (op ≡ 0 → ⊥) → r ≡ up_to8 count → r ≡ third_of op other count second
-third_count op other count r second z e = e ∙ sym (ap (λ (b : Bool). cond b (slot_of second other) (up_to8 count)) (ne_eqb op 0 z))
-
 -- clauses
 
 -- the length of a struct's array of structs, from what owning the struct tells: `search (needs, unmapped)`
@@ -183,27 +149,3 @@ unmapped f l h = sym (length-map l f) ∙ h
 -- what an array of atoms is read as past its end
 abbrev pub no_atom : Atom
 no_atom = record { variable = 0; operator = 0; other = 0; count = 0; values = [] }
-
-pub lays_none : (s : List ℕ) (n : ℕ) (second : Bool) (xs : List Atom) → word_atoms s (n + 0) ≡ word_atoms s n ++ map (seen second) (map atom_of (take 0 xs))
-lays_none s n second xs = ap (word_atoms s) (let e : n + 0 ≡ n = omega arith in e) ∙ sym (append-nil (word_atoms s n))
-
-pub lays_more : (old s t : List ℕ) (n i : ℕ) (second : Bool) (xs : List Atom) (d : Atom) → i < length xs → word_atoms t (n + i + 1) ≡ word_atoms s (n + i) ++ (seen second (atom_of (get_or xs i d)) ∷ []) →
-    word_atoms s (n + i) ≡ word_atoms old n ++ map (seen second) (map atom_of (take i xs)) → word_atoms t (n + (i + 1)) ≡ word_atoms old n ++ map (seen second) (map atom_of (take (i + 1) xs))
-lays_more old s t n i second xs d l e h =
-    ap (word_atoms t) (let q : n + (i + 1) ≡ n + i + 1 = omega arith in q) ∙ e ∙ ap (λ zs. zs ++ (seen second (atom_of (get_or xs i d)) ∷ [])) h
-    ∙ append_assoc (word_atoms old n) _ _
-    ∙ ap (λ xs. word_atoms old n ++ xs)
-    (sym (map-append (seen second) (map atom_of (take i xs)) (atom_of (get_or xs i d) ∷ [])) ∙ ap (map (seen second)) (sym (map-append atom_of (take i xs) (get_or xs i d ∷ [])) ∙ ap (map atom_of) (sym (take-suc xs i d l) ∙ ap (λ (k : ℕ). take k xs) (let q : suc i ≡ i + 1 = omega arith in q))))
-
-pub take_8 : {A : Type 0} (count : ℕ) (xs : List A) → length xs ≡ 8 → take (up_to8 count) xs ≡ take count xs
-unfolding up_to8
-take_8 count xs len = go (ltb count 8) refl
-  where
-    go : (b : Bool) → ltb count 8 ≡ b → take (cond b count 8) xs ≡ take count xs
-    go true q = refl
-    go false q = let l = ltb-false count 8 q in take_all 8 xs (omega arith) ∙ sym (take_all count xs (omega arith))
-
-pub lays_all : (old s : List ℕ) (n i k : ℕ) (second : Bool) (c : Clause) → length c.atoms ≡ 8 → i ≡ k → k ≡ up_to8 c.count →
-    word_atoms s (n + i) ≡ word_atoms old n ++ map (seen second) (map atom_of (take i c.atoms)) → word_atoms s (n + k) ≡ word_atoms old n ++ map (seen second) (clause_of c)
-lays_all old s n i k second c len e f h =
-    ap (λ (j : ℕ). word_atoms s (n + j)) (sym e) ∙ h ∙ ap (λ xs. word_atoms old n ++ map (seen second) (map atom_of xs)) (ap (λ (j : ℕ). take j c.atoms) (e ∙ f) ∙ take_8 c.count c.atoms len)

@@ -28,9 +28,9 @@ words_cut words k n e l =
 one_clause : (s : List ℕ) (c : m.Clause) → word_atoms s (atoms s) ≡ map (seen false) c → (e : Contents) → clause_met e (word_atoms s (atoms s)) ≡ clause_met e (map (seen false) c ++ map (seen true) [])
 one_clause s c w e = ap (clause_met e) (w ∙ sym (append-nil (map (seen false) c)))
 
-pub meets_told : (s top : List ℕ) (n k : ℕ) (r : Bool) → k ≡ n * 11 → k ≤ length s → search.Answers (take k s) top r → TellsMeets s n top r
-meets_told s top n k r ek l h held sheet a w g u =
-    let d = answered held sheet (take k s) top a [] (one_clause (take k s) a (words_cut s k n ek l ∙ w)) g u tt r h in
+pub meets_told : (words s top : List ℕ) (n : ℕ) (r : Bool) → word_atoms s (atoms s) ≡ word_atoms words n → search.Answers s top r → TellsMeets words n top r
+meets_told words s top n r l h held sheet a w g u =
+    let d = answered held sheet s top a [] (one_clause s a (l ∙ w)) g u tt r h in
     record {
       yes = λ q. let b = d.yes q in record { row = b.row; session = b.one; is_row = b.is_row; is_session = b.is_one; meets = b.meets_a };
       no = λ q x.
@@ -39,24 +39,24 @@ meets_told s top n k r ek l h held sheet a w g u =
     }
 
 -- the same of rows with any columns
-pub live_told : (words top : List ℕ) (k n : ℕ) (c : m.Clause) (r : Bool) → k ≡ n * 11 → k ≤ length words → word_atoms words n ≡ map (seen false) c → search.Answers (take k words) top r → Tells top c (λ sheet. LiveClause sheet c) r
-live_told words top k n c r e l w h sheet ranges u =
-    let d = meets_told words top n k r e l h (every_column sheet) sheet c w ranges u in
+pub live_told : (words s top : List ℕ) (n : ℕ) (c : m.Clause) (r : Bool) → word_atoms s (atoms s) ≡ word_atoms words n → word_atoms words n ≡ map (seen false) c → search.Answers s top r → Tells top c (λ sheet. LiveClause sheet c) r
+live_told words s top n c r l w h sheet ranges u =
+    let d = meets_told words s top n r l h (every_column sheet) sheet c w ranges u in
     record {
       yes = λ q. let b = d.yes q in record { row = b.row; session = b.session; is_row = b.is_row; is_session = b.is_session; meets = b.meets };
       no = λ q x. d.no q record { row = x.row; session = x.session; is_row = x.is_row; is_session = x.is_session; meets = x.meets };
     }
 
-pub differs_told : (words top : List ℕ) (k n u w : ℕ) (c : m.Clause) (r : Bool) → k ≡ n * 11 → k ≤ length words → word_atoms words n ≡ map (seen false) c → search.Apart (take k words) top (u % 32) (w % 32) r →
+pub differs_told : (words s top : List ℕ) (n u w : ℕ) (c : m.Clause) (r : Bool) → word_atoms s (atoms s) ≡ word_atoms words n → word_atoms words n ≡ map (seen false) c → search.Apart s top (u % 32) (w % 32) r →
     Tells top (on u (equals w) ∷ c) (λ sheet. Differs sheet c u w) r
-differs_told words top k n u w c r e l ws h sheet ranges us =
+differs_told words s top n u w c r l ws h sheet ranges us =
     let tu = us.0.0 in
     let tw = us.0.1.0 in
     let nu = tu.number in
     let nw = tw.number in
     let iu : slot_of false u ≡ u % 32 = slot_one u (omega arith) ∙ (let z : u ≡ u % 32 = omega arith in z) in
     let jw : slot_of false w ≡ w % 32 = slot_one w (omega arith) ∙ (let z : w ≡ w % 32 = omega arith in z) in
-    let d = told_apart (every_column sheet) sheet (take k words) top c [] (one_clause (take k words) c (words_cut words k n e l ∙ ws)) ranges us.1 tt (u % 32) (w % 32) false false u w tu tw iu jw r h in
+    let d = told_apart (every_column sheet) sheet s top c [] (one_clause s c (l ∙ ws)) ranges us.1 tt (u % 32) (w % 32) false false u w tu tw iu jw r h in
     record {
       yes = λ q.
           let b = d.yes q in

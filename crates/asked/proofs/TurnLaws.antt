@@ -2,10 +2,10 @@
 use Prim.Native.Nat.{ℕ}
 use mathlib.Core.Path.{◌≡◌, refl, sym, ◌∙◌, ap, subst}
 use mathlib.Core.Bool.{Bool, true, false, cond}
-use mathlib.Core.List.{List, [], ◌∷◌}
+use mathlib.Core.List.{List}
 use lib.ListN.{get_or, take}
 use lib.Dec.{eqb}
-use borrow.Author.Tests.{eqb-true, ne_eqb}
+use borrow.Author.Tests.{eqb-true}
 use Rattle.meaning.specs.Atoms.{at_most, at_least, is_below, is_above, equals, in_list, not_in_list, order, is_null, is_not_null}
 use Rattle.meaning.specs.Steps.{on}
 use Rattle.meaning.specs.declared.Atom.{Atom}
@@ -40,13 +40,3 @@ turned_there a b ev eo eu ec es =
         chain u x xs false false false false false true b7 = refl
         chain u x xs false false false false false false true = refl
         chain u x xs false false false false false false false = refl
-
-pub null_made : (v : ℕ) → atom_of (record { variable = v; operator = 7; other = 0; count = 0; values = 0 ∷ 0 ∷ 0 ∷ 0 ∷ 0 ∷ 0 ∷ 0 ∷ 0 ∷ [] }) ≡ on v is_null
-unfolding atom_of
-null_made v = refl
-
-pub turned_rest : (op : ℕ) → (op ≡ 1 → ⊥) → (op ≡ 2 → ⊥) → (op ≡ 3 → ⊥) → (op ≡ 4 → ⊥) → (op ≡ 5 → ⊥) → (op ≡ 6 → ⊥) → (op ≡ 7 → ⊥) → 7 ≡ turned_number op
-turned_rest op a1 a2 a3 a4 a5 a6 a7 = simp (ne_eqb op 1 a1, ne_eqb op 2 a2, ne_eqb op 3 a3, ne_eqb op 4 a4, ne_eqb op 5 a5, ne_eqb op 6 a6, ne_eqb op 7 a7)
-
-pub turned_at : (op k : ℕ) → op ≡ k → turned_number k ≡ turned_number op
-turned_at op k e = sym (ap turned_number e)

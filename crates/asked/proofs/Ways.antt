@@ -1,7 +1,7 @@
 -- Others imply an atom where none of the ways in which it fails is left, free of code. Assumes nothing.
 use Prim.Native.Nat.{ℕ}
 use mathlib.Core.Path.{◌≡◌, refl, sym, ◌∙◌, ap, subst}
-use mathlib.Core.Bool.{Bool, true, false}
+use mathlib.Core.Bool.{Bool, true, false, not}
 use mathlib.Core.List.{List, [], ◌∷◌, ◌++◌}
 use lib.Dec.{eqb}
 use borrow.Author.Tests.{eqb-true, eqb-false}
@@ -105,11 +105,12 @@ module _ (top : List ℕ) (others : m.Clause) (a : Atom) where
   unfolding atom_of
   own = refl
 
-  pub implies_turned_yes : (t : Atom) (r : Bool) → atom_of t ≡ turned (atom_of a) → Live top (others ++ (atom_of t ∷ [])) r → r ≡ true → Covered top others (atom_of a) false
+  implies_turned_yes : (t : Atom) (r : Bool) → atom_of t ≡ turned (atom_of a) → Live top (others ++ (atom_of t ∷ [])) r → r ≡ true → Covered top others (atom_of a) false
   implies_turned_yes t r q h e = turned_yes top others (atom_of a) r e (as_turned t r q h)
 
-  pub implies_null_no : (t : Atom) (r : Bool) → atom_of t ≡ turned (atom_of a) → Live top (others ++ (atom_of t ∷ [])) r → r ≡ false → a.operator ≡ 7 → Covered top others (atom_of a) true
-  implies_null_no t r q h e o = null_no top others (atom_of a) r (null_there a o) e (as_turned t r q h)
+  pub implies_null : (t : Atom) (r : Bool) → atom_of t ≡ turned (atom_of a) → Live top (others ++ (atom_of t ∷ [])) r → a.operator ≡ 7 → Covered top others (atom_of a) (not r)
+  implies_null t true q h o = implies_turned_yes t true q h refl
+  implies_null t false q h o = null_no top others (atom_of a) false (null_there a o) refl (as_turned t false q h)
 
   pub is_not : (a.operator ≡ 7 → ⊥) → (atom_of a).operator ≡ is_null → ⊥
   is_not o = go (eqb a.operator 0) refl
@@ -125,17 +126,19 @@ module _ (top : List ℕ) (others : m.Clause) (a : Atom) where
   pub implies_other_yes : (n : Atom) (r : Bool) → atom_of n ≡ on a.other is_null → Live top (others ++ (atom_of n ∷ [])) r → r ≡ true → a.operator ≡ 0 → Covered top others (atom_of a) false
   implies_other_yes n r q h e o = other_yes top others (atom_of a) r a.other (equals_there a o) e (as_null n a.other r q h)
 
-  pub implies_apart_yes : (r : Bool) → Tells top (on a.variable (equals a.other) ∷ others) (λ sheet. Differs sheet others a.variable a.other) r → r ≡ true → a.operator ≡ 0 → Covered top others (atom_of a) false
+  implies_apart_yes : (r : Bool) → Tells top (on a.variable (equals a.other) ∷ others) (λ sheet. Differs sheet others a.variable a.other) r → r ≡ true → a.operator ≡ 0 → Covered top others (atom_of a) false
   unfolding atom_of
   implies_apart_yes r h e o = apart_yes top others (atom_of a) r a.other (equals_there a o) e h
 
-  pub implies_plain_no : (n t : Atom) (r q : Bool) → atom_of n ≡ on a.variable is_null → Live top (others ++ (atom_of n ∷ [])) r → r ≡ false → atom_of t ≡ turned (atom_of a) → Live top (others ++ (atom_of t ∷ [])) q → q ≡ false →
-      (a.operator ≡ 0 → ⊥) → (a.operator ≡ 7 → ⊥) → Covered top others (atom_of a) true
+  pub implies_plain : (n t : Atom) (r q : Bool) → atom_of n ≡ on a.variable is_null → Live top (others ++ (atom_of n ∷ [])) r → r ≡ false → atom_of t ≡ turned (atom_of a) → Live top (others ++ (atom_of t ∷ [])) q →
+      (a.operator ≡ 0 → ⊥) → (a.operator ≡ 7 → ⊥) → Covered top others (atom_of a) (not q)
   unfolding atom_of
-  implies_plain_no n t r q en hn e et ht f z s = plain_no top others (atom_of a) r q (plain_there a z s) e (as_null n a.variable r en hn) f (as_turned t q et ht)
+  implies_plain n t r true en hn e et ht z s = implies_turned_yes t true et ht refl
+  implies_plain n t r false en hn e et ht z s = plain_no top others (atom_of a) r false (plain_there a z s) e (as_null n a.variable r en hn) refl (as_turned t false et ht)
 
-  pub implies_equals_no : (n k : Atom) (r q d : Bool) → atom_of n ≡ on a.variable is_null → Live top (others ++ (atom_of n ∷ [])) r → r ≡ false → atom_of k ≡ on a.other is_null → Live top (others ++ (atom_of k ∷ [])) q → q ≡ false →
-      Tells top (on a.variable (equals a.other) ∷ others) (λ sheet. Differs sheet others a.variable a.other) d → d ≡ false → a.operator ≡ 0 → Covered top others (atom_of a) true
+  pub implies_equals : (n k : Atom) (r q d : Bool) → atom_of n ≡ on a.variable is_null → Live top (others ++ (atom_of n ∷ [])) r → r ≡ false → atom_of k ≡ on a.other is_null → Live top (others ++ (atom_of k ∷ [])) q → q ≡ false →
+      Tells top (on a.variable (equals a.other) ∷ others) (λ sheet. Differs sheet others a.variable a.other) d → a.operator ≡ 0 → Covered top others (atom_of a) (not d)
   unfolding atom_of
-  implies_equals_no n k r q d en hn e ek hk f h g o =
-      equals_no top others (atom_of a) r q d a.other (equals_there a o) e (as_null n a.variable r en hn) f (as_null k a.other q ek hk) g h
+  implies_equals n k r q true en hn e ek hk f h o = implies_apart_yes true h refl o
+  implies_equals n k r q false en hn e ek hk f h o =
+      equals_no top others (atom_of a) r q false a.other (equals_there a o) e (as_null n a.variable r en hn) f (as_null k a.other q ek hk) refl h

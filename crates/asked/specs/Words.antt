@@ -1,5 +1,5 @@
 -- Atoms laid into the engine's words, as the document's atoms.
-use Rattle.std.specs.Prelude.{ℕ, zero, suc, ◌+◌, ◌*◌, ◌%◌, Bool, cond, ◌&&◌, List, [], ◌∷◌, ◌++◌, get_or, leb, ltb, eqb}
+use Rattle.std.specs.Prelude.{ℕ, zero, suc, ◌+◌, ◌*◌, ◌%◌, Bool, cond, ◌&&◌, List, [], ◌∷◌, ◌++◌, get_or, leb, eqb, min}
 use Rattle.meaning.specs.Atoms as m
 use Rattle.meaning.specs.Atoms.{Operator, equals, in_list, not_in_list, order, is_null, is_not_null}
 use Rattle.meaning.specs.Steps.{on}
@@ -38,8 +38,5 @@ abbrev pub seen : Bool → m.Atom → m.Atom
 seen second a = on (slot_of second a.variable) (seen_by second a.operator)
 
 -- the third word of an atom: its other variable, or how many of its eight values are in its list
-unfoldable pub up_to8 : ℕ → ℕ
-up_to8 count = cond (ltb count 8) count 8
-
 abbrev pub third_of : ℕ → ℕ → ℕ → Bool → ℕ
-third_of op other count second = cond (eqb op 0) (slot_of second other) (up_to8 count)
+third_of op other count second = cond (eqb op 0) (slot_of second other) (min count 8)

@@ -7,25 +7,11 @@ use mathlib.Core.Bool.{Bool, true, false, cond}
 use mathlib.Core.List.{List, [], ◌∷◌, ◌++◌}
 use lib.Dec.{eqb}
 use lib.ListN.{length, get_or, length-append}
-use borrow.Author.Tests.{eq-eqb, ne_eqb}
 use Rattle.meaning.specs.Atoms.{Clause}
 use Rattle.meaning.specs.Sheets.{choices}
 use Rattle.branches.specs.Parts.{up_to, permitted, restricting, branches_of, term, factor, sum_to, product_to, Sized}
 use Rattle.branches.proofs.JoinLaws.{nil_right, joined_length, choices_snoc}
 use Rattle.branches.proofs.PickLaws.{term_length}
-
--- each term and factor is at most 8
-pub term_counts : (role count r : ℕ) → role ≡ 1 → r ≡ min count 8 → r ≡ term role count
-term_counts role count r e f = f ∙ ap (λ (b : Bool). cond b (min count 8) 0) (sym (eq-eqb role 1 e))
-
-pub term_none : (role count : ℕ) → (role ≡ 1 → ⊥) → 0 ≡ term role count
-term_none role count e = ap (λ (b : Bool). cond b (min count 8) 0) (sym (ne_eqb role 1 e))
-
-pub factor_counts : (role count r : ℕ) → role ≡ 2 → r ≡ min count 8 → r ≡ factor role count
-factor_counts role count r e f = f ∙ ap (λ (b : Bool). cond b (min count 8) 1) (sym (eq-eqb role 2 e))
-
-pub factor_one : (role count : ℕ) → (role ≡ 2 → ⊥) → 1 ≡ factor role count
-factor_one role count e = ap (λ (b : Bool). cond b (min count 8) 1) (sym (ne_eqb role 2 e))
 
 suc_one : (p : ℕ) → suc p ≡ p + 1
 suc_one p = omega arith

@@ -5,13 +5,9 @@ use native.Mathlib.Decide.{ℕ_discrete, dec_lt}
 use mathlib.Core.Path.{◌≡◌, refl, sym, ap, subst, ◌∙◌}
 use mathlib.Core.Bool.{Bool, cond}
 use mathlib.Core.List.{List}
-use lib.Dec.{eqb}
 use lib.ListN.{length, get_or, set, length-set, replicate, get_or-replicate, get_or-eq_default}
 use lib.Seq.{get_or-set_same, get_or-set_other}
 use Rattle.meaning.specs.Sheets.{Sheet, policy_at, applies}
-use Rattle.sheet.specs.declared.Directory.{Directory}
-use Rattle.sheet.specs.Directory.{policy_cell, Described}
-use Rattle.sheet.proofs.EntryLaws.{restrictive_so, count_so}
 use Rattle.branches.specs.Parts.{role_of, RolesAre, CountsAre}
 
 -- the first p numbers are what P says, and the others 0
@@ -38,26 +34,21 @@ filled_more P xs p x l h had = record { sixteen = length-set xs p x ∙ had.sixt
     before i k (no e) = subst (P i) (sym (get_or-set_other xs p i x 0 e)) (had.so_far i (omega arith))
 
 -- x is the role of policy i
-pub record RoleAt (s : List ℕ) (d : Directory) (book : List ℕ) (t command i x : ℕ) : Type 0 where
-  pub is : (sheet : Sheet) → Described s sheet d book → t < length sheet.tables → i < length sheet.policies → x ≡ role_of sheet t command (policy_at sheet i)
+abbrev pub RoleAt : Sheet → ℕ → ℕ → ℕ → ℕ → Type 0
+RoleAt sheet t command i x = t < length sheet.tables → i < length sheet.policies → x ≡ role_of sheet t command (policy_at sheet i)
 
-pub role_at : (s : List ℕ) (d : Directory) (book : List ℕ) (t command i x : ℕ) (a r : Bool) → x ≡ cond a (cond r 2 1) 0 → (i < 16 → r ≡ eqb (policy_cell book i 0) 1) →
-    ((sheet : Sheet) → Described s sheet d book → t < length sheet.tables → i < length sheet.policies → a ≡ applies sheet t command (policy_at sheet i)) → RoleAt s d book t command i x
-unfolding role_of
-role_at s d book t command i x a r e g h =
-    record {
-      is = λ sheet f m k. e ∙ ap (λ (b : Bool). cond b (cond r 2 1) 0) (h sheet f m k) ∙ ap (λ (b : Bool). cond (applies sheet t command (policy_at sheet i)) (cond b 2 1) 0) (restrictive_so f i k g);
-    }
+module _ (sheet : Sheet) (t command : ℕ) where
+  pub role_at : {i x : ℕ} {a r : Bool} → x ≡ cond a (cond r 2 1) 0 → (i < length sheet.policies → r ≡ (policy_at sheet i).restrictive) →
+      (t < length sheet.tables → i < length sheet.policies → a ≡ applies sheet t command (policy_at sheet i)) → RoleAt sheet t command i x
+  unfolding role_of
+  role_at {i} {x} {a} {r} e g h m k = e ∙ ap (λ (b : Bool). cond b (cond r 2 1) 0) (h m k) ∙ ap (λ (b : Bool). cond (applies sheet t command (policy_at sheet i)) (cond b 2 1) 0) (g k)
 
-pub roles_are : (s : List ℕ) (d : Directory) (book : List ℕ) (t command : ℕ) (xs : List ℕ) (p : ℕ) → Filled (RoleAt s d book t command) xs p → (sheet : Sheet) → Described s sheet d book → length sheet.policies ≤ p → t < length sheet.tables → p ≤ length sheet.policies → RolesAre sheet t command xs
-roles_are s d book t command xs p had sheet f l m g = record { counted = λ i k. (had.so_far i (omega arith)).is sheet f m k; past = λ i k. had.past i (omega arith) }
+  pub roles_are : {xs : List ℕ} {n : ℕ} → n ≡ length sheet.policies → Filled (RoleAt sheet t command) xs n → t < length sheet.tables → RolesAre sheet t command xs
+  roles_are e had m = record { counted = λ i k. had.so_far i (omega arith) m k; past = λ i k. had.past i (omega arith) }
 
 -- x is the clause count of policy i
-pub record CountAt (book : List ℕ) (i x : ℕ) : Type 0 where
-  pub is : (s : List ℕ) (sheet : Sheet) (d : Directory) → Described s sheet d book → i < length sheet.policies → x ≡ length (policy_at sheet i).clauses
+abbrev pub CountAt : Sheet → ℕ → ℕ → Type 0
+CountAt sheet i x = x ≡ length (policy_at sheet i).clauses
 
-pub count_at : (book : List ℕ) (i x : ℕ) → (i < 16 → x ≡ policy_cell book i 3) → CountAt book i x
-count_at book i x e = record { is = λ s sheet d f k. count_so f i k e }
-
-pub counts_are : (d : Directory) (book : List ℕ) (xs : List ℕ) (p : ℕ) → Filled (CountAt book) xs p → (s : List ℕ) (sheet : Sheet) → Described s sheet d book → length sheet.policies ≤ p → p ≤ length sheet.policies → CountsAre sheet xs
-counts_are d book xs p had s sheet f l g = record { counted = λ i k. (had.so_far i (omega arith)).is s sheet d f k; past = λ i k. had.past i (omega arith) }
+pub counts_are : (sheet : Sheet) {xs : List ℕ} {n : ℕ} → n ≡ length sheet.policies → Filled (CountAt sheet) xs n → CountsAre sheet xs
+counts_are sheet e had = record { counted = λ i k. had.so_far i (omega arith); past = λ i k. had.past i (omega arith) }

@@ -207,8 +207,14 @@ module _ (roles counts : List ℕ) (k : ℕ) where
           ap (λ xs. get_or xs rest []) (sym own) ∙ sym (get_or-append (f p) (onward f (suc p) (16 - suc p)) [] rest (omega arith))
           ∙ ap (λ xs. get_or xs rest []) (sym (ap (onward f p) (one_more p l))) ∙ (had.left clauses s m).1
 
-  pub seek_ends : (p rest : ℕ) (r : Permitted) → r.policy < 16 → p ≡ 16 → Seek p rest → Finds roles counts k r
-  seek_ends p rest r l e had = record { there = l; finds = λ clauses s m. absurd (not-suc-le-zero ((subst (λ z. Seek z rest) e had).left clauses s m).0) }
+  pub seek_ends : (p rest : ℕ) → p ≡ 16 → Seek p rest → (clauses : ℕ → List Clause) → Sized counts clauses → k < length (up_to (permitted roles clauses) 16) → ⊥
+  seek_ends p rest e had clauses s m = not-suc-le-zero ((subst (λ z. Seek z rest) e had).left clauses s m).0
+
+-- no permissive clause has the number, so there is no such branch
+pub picks_none : (roles counts : List ℕ) (k : ℕ) (d : Digits) → Splits roles counts k d →
+    ((clauses : ℕ → List Clause) → Sized counts clauses → d.rest < length (up_to (permitted roles clauses) 16) → ⊥) → Picks roles counts k (record { policy = 0; slots = d.slots })
+unfolding branches_of
+picks_none roles counts k d h none = record { there = omega arith; picks = λ clauses s l. absurd (none clauses s (h.picks clauses s (up_to (permitted roles clauses) 16) l).0) }
 
 -- the digits, with the permissive clause in its policy's slot
 pub picks_both : (roles counts : List ℕ) (k : ℕ) (d : Digits) (q : Permitted) → length d.slots ≡ 16 → Splits roles counts k d → Finds roles counts d.rest q →

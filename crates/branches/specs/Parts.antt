@@ -1,5 +1,5 @@
 -- The branches of a table and command, from what each of the 16 policies' places has: its role, its clause count, its clauses.
-use Rattle.std.specs.Prelude.{ℕ, zero, suc, ◌+◌, ◌*◌, ◌<◌, ◌≤◌, min, ◌≡◌, cond, List, [], ◌∷◌, ◌++◌, length, get_or, eqb}
+use Rattle.std.specs.Prelude.{ℕ, zero, suc, ◌+◌, ◌*◌, ◌<◌, ◌≤◌, min, ◌≡◌, cond, List, [], ◌∷◌, ◌++◌, length, get_or, eqb, Option, MatchOption}
 use Rattle.meaning.specs.Atoms.{Clause}
 use Rattle.meaning.specs.Sheets as m
 use Rattle.meaning.specs.Sheets.{Sheet, policy_at, applies, joined, choices}
@@ -77,6 +77,10 @@ pub record Finds (roles counts : List ℕ) (k : ℕ) (r : Permitted) : Type 0 wh
   pub there : r.policy < 16
   pub finds : (clauses : ℕ → List Clause) → Sized counts clauses → k < length (up_to (permitted roles clauses) 16) →
       (get_or roles r.policy 0 ≡ 1) × (get_or (clauses r.policy) r.clause [] ≡ get_or (up_to (permitted roles clauses) 16) k [])
+
+-- the same, where there is such a clause
+abbrev pub FindsIfThere : List ℕ → List ℕ → ℕ → Option Permitted → Type 0
+FindsIfThere roles counts k r = MatchOption r ((clauses : ℕ → List Clause) → Sized counts clauses → k < length (up_to (permitted roles clauses) 16) → ⊥) (Finds roles counts k)
 
 -- r is branch k
 pub record Picks (roles counts : List ℕ) (k : ℕ) (r : Branch) : Type 0 where

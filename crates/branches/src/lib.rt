@@ -6,12 +6,9 @@
 #![tactic(auto)]
 
 ghost use Rattle.std.specs.Prelude.{◌≡◌, ℕ, ◌+◌, ◌*◌, ◌/◌, ◌%◌, ◌<◌, ◌≤◌, min, cond, List, length};
-ghost use Rattle.meaning.specs.Sheets.{Sheet};
-ghost use Rattle.meaning.specs.Allowed.{SheetAllowed};
-ghost use Rattle.sheet.specs.Directory.{Described};
-ghost use Rattle.branches.specs.Parts.{term, factor, sum_to, product_to, Splits, Finds, Picks, RolesAre, CountsAre};
+ghost use Rattle.branches.specs.Parts.{term, factor, sum_to, product_to, Splits, FindsIfThere, Picks, RolesAre, CountsAre};
 
-use sheet::Directory;
+use sheet::Accepted;
 
 // No clause has this number.
 const NONE: u64 = 8;
@@ -37,33 +34,18 @@ pub struct Permitted {
     pub clause: u64,
 }
 
-fn up_to_8(n: u64) -> u64
-    ensures { (result ≡ min n 8) × (result ≤ 8) }
-{
-    if n < 8 {
-        return n;
-    }
-    8
-}
-
 // How many permissive clauses a policy brings.
 fn term_of(role: u64, count: u64) -> u64
     ensures { (result ≡ term role count) × (result ≤ 8) }
 {
-    if role == 1 {
-        return up_to_8(count);
-    }
-    0
+    if role == 1 { count.min(8) } else { 0 }
 }
 
 // How many choices a policy leaves beside the permissive clause.
 fn factor_of(role: u64, count: u64) -> u64
     ensures { (result ≡ factor role count) × (result ≤ 8) }
 {
-    if role == 2 {
-        return up_to_8(count);
-    }
-    1
+    if role == 2 { count.min(8) } else { 1 }
 }
 
 // N: "the sum of the permissive policies' clause counts times the product of the restrictive ones' counts". At most 128 * 8^16 < 2^56.
@@ -72,23 +54,11 @@ pub fn count(roles: [u64; 16], counts: [u64; 16]) -> u64
 {
     let mut sum: u64 = 0;
     let mut product: u64 = 1;
-    let mut p = 0;
-    while p < 16 {
+    for p in 0..16 {
         sum += term_of(roles[p], counts[p]);
         product *= factor_of(roles[p], counts[p]);
-        p += 1;
     }
     sum * product
-}
-
-// A divisor: n, or 1 where n is 0.
-fn divisor(n: u64) -> u64
-    ensures { (0 < result) × (0 < n → result ≡ n) }
-{
-    if n < 1 {
-        return 1;
-    }
-    n
 }
 
 // What is left of n by a divisor, and how often that goes into n. Division is slow and most divisors are 1, where there is nothing to divide.
@@ -96,30 +66,21 @@ fn left_by(n: u64, b: u64) -> u64
     requires { 0 < b }
     ensures { result ≡ n % b }
 {
-    if b == 1 {
-        return 0;
-    }
-    n % b
+    if b == 1 { 0 } else { n % b }
 }
 
 fn over(n: u64, b: u64) -> u64
     requires { 0 < b }
     ensures { result ≡ n / b }
 {
-    if b == 1 {
-        return n;
-    }
-    n / b
+    if b == 1 { n } else { n / b }
 }
 
 // The slot of a policy at digit d: a clause number of a restrictive one, else none.
 fn slot(role: u64, d: u64) -> u64
     ensures { (role ≡ 2 → result ≡ d) × ((role ≡ 2 → ⊥) → result ≡ 8) }
 {
-    if role == 2 {
-        return d;
-    }
-    NONE
+    if role == 2 { d } else { NONE }
 }
 
 // The branch's number written in the restrictive policies' own factors, from the last to the first; what is left is the permissive clause's number.
@@ -128,11 +89,9 @@ fn digits_of(roles: [u64; 16], counts: [u64; 16], k: u64) -> Digits
 {
     let mut slots = [NONE; 16];
     let mut rest = k;
-    let mut p = 16;
-    while 0 < p {
-        p -= 1;
+    for p in (0..16).rev() {
         let role = roles[p];
-        let b = divisor(factor_of(role, counts[p]));
+        let b = factor_of(role, counts[p]).max(1);
         slots[p] = slot(role, left_by(rest, b));
         rest = over(rest, b);
     }
@@ -140,84 +99,64 @@ fn digits_of(roles: [u64; 16], counts: [u64; 16], k: u64) -> Digits
 }
 
 // Where permissive clause number k stands.
-fn permitted_at(roles: [u64; 16], counts: [u64; 16], k: u64) -> Permitted
-    ensures { Finds roles counts k result }
+fn permitted_at(roles: [u64; 16], counts: [u64; 16], k: u64) -> Option<Permitted>
+    ensures { FindsIfThere roles counts k result }
 {
     let mut rest = k;
-    let mut p = 0;
-    while p < 16 {
+    for p in 0..16 {
         let n = term_of(roles[p], counts[p]);
         if rest < n {
-            return Permitted {
+            return Some(Permitted {
                 policy: p,
                 clause: rest,
-            };
+            });
         }
         rest -= n;
-        p += 1;
     }
-    Permitted {
-        policy: 0,
-        clause: NONE,
-    }
+    None
 }
 
 // The clauses of branch number k.
 pub fn pick(roles: [u64; 16], counts: [u64; 16], k: u64) -> Branch
     ensures { Picks roles counts k result }
 {
-    let d = digits_of(roles, counts, k);
-    let q = permitted_at(roles, counts, d.rest);
-    let mut slots = d.slots;
-    let p = q.policy;
-    slots[p] = q.clause;
-    Branch { policy: p, slots }
+    let Digits { rest, mut slots } = digits_of(roles, counts, k);
+    let Some(Permitted { policy, clause }) = permitted_at(roles, counts, rest) else {
+        return Branch { policy: 0, slots };
+    };
+    slots[policy] = clause;
+    Branch { policy, slots }
 }
 
 // A policy's role.
 fn role_of(applies: bool, restrictive: bool) -> u64
     ensures { result ≡ cond applies (cond restrictive 2 1) 0 }
 {
-    if applies {
-        if restrictive {
-            return 2;
-        }
-        return 1;
+    match (applies, restrictive) {
+        (false, _) => 0,
+        (true, false) => 1,
+        (true, true) => 2,
     }
-    0
 }
 
 // The roles of a sheet's policies for a table and command.
-pub fn roles(s: &[u8], d: Directory, book: &[u32], t: usize, command: u64) -> [u64; 16]
-    ensures { (sheet : Sheet) → Described s.now sheet d book.now → SheetAllowed sheet → t < length sheet.tables → RolesAre sheet t command result }
+pub fn roles(sheet: &Accepted, t: usize, command: u64) -> [u64; 16]
+    ensures { t < length sheet.now.tables → RolesAre sheet.now t command result }
 {
-    let n = d.policies;
     let mut roles = [0u64; 16];
-    let mut p: usize = 0;
-    while p < 16 {
-        if n <= p as u64 {
-            return roles;
-        }
-        let restrictive = sheet::entries::restrictive_of(book, p);
-        roles[p] = role_of(sheet::applies(s, d, book, t, command, p), restrictive);
-        p += 1;
+    for p in 0..sheet.policies() {
+        roles[p] = role_of(sheet.applies(t, command, p), sheet.is_restrictive(p));
     }
     roles
 }
 
 // The clause counts of a sheet's policies.
-pub fn counts(d: Directory, book: &[u32]) -> [u64; 16]
-    ensures { (s : List ℕ) (sheet : Sheet) → Described s sheet d book.now → SheetAllowed sheet → CountsAre sheet result }
+pub fn counts(sheet: &Accepted) -> [u64; 16]
+    ensures { CountsAre sheet.now result }
 {
-    let n = d.policies;
     let mut counts = [0u64; 16];
-    let mut p: usize = 0;
-    while p < 16 {
-        if n <= p as u64 {
-            return counts;
-        }
-        counts[p] = sheet::entries::count_of(book, p) as u64;
-        p += 1;
+    for p in 0..sheet.policies() {
+        counts[p] = sheet.clause_count(p) as u64;
     }
     counts
 }

@@ -1,15 +1,14 @@
 // Runs the cases of data/ (its README has the format) through the public calls, and prints how many of each file came out as document 01 has them.
 #![tactic(auto)]
 
-ghost use Rattle.std.specs.Prelude.{◌≡◌, length};
-ghost use Rattle.std.specs.Counts.{IsPrefixLen};
+ghost use Rattle.std.specs.Prelude.{◌≡◌, ◌≤◌, length, IfSome};
 
 use fiddlecomet::{
     fiddlecomet_branches, fiddlecomet_covers, fiddlecomet_dead, fiddlecomet_isolated,
     fiddlecomet_listing, fiddlecomet_normal_form,
 };
 use input::read_full;
-use script::{Word, behind, first, hex, next_line, number, word_at};
+use script::{Lines, Words, first, hex, number};
 use std::fs::File;
 use std::io;
 use std::rt::Files;
@@ -17,310 +16,179 @@ use std::rt::Files;
 // What every byte of a lent output is before a call.
 const FILL: u8 = 165;
 
-// A number of 32 bits that a word spells.
-fn small(s: &[u8], w: Word) -> u32 {
-    (number(s, w) % 4294967296) as u32
+// Room for the bytes that a word of a case spells, a little more than is accepted: of a sheet, and of an output or a row list.
+const SHEET: usize = 16400;
+
+const LIST: usize = 65600;
+
+// The files' names.
+const FILES: [&str; 9] = [
+    "marked.txt",
+    "refusals.txt",
+    "order.txt",
+    "truncated.txt",
+    "limits.txt",
+    "large.txt",
+    "verdicts.txt",
+    "normals.txt",
+    "listings.txt",
+];
+
+// What is left of a case: its words, of which None says that they are over.
+#[derive(Drop)]
+struct Case<'a> {
+    words: Words<'a>,
 }
 
-// The word behind a word.
-fn after(s: &[u8], w: Word) -> Word {
-    word_at(s, behind(w))
-}
+impl Case<'_> {
+    fn number(&mut self) -> Option<u64> {
+        self.words.next().map(number)
+    }
 
-// branches SHEET TABLE COMMAND > REFUSAL COUNT
-fn branches_agree(s: &[u8], at: usize) -> bool {
-    let mut sheet = [0u8; 16400];
-    let w = word_at(s, at);
-    let n = hex(s, w, &mut sheet);
-    let table = after(s, w);
-    let command = after(s, table);
-    let refusal = after(s, after(s, command));
-    let count = after(s, refusal);
-    let r = fiddlecomet_branches(&sheet[..n], small(s, table), small(s, command));
-    if r.refusal != small(s, refusal) {
-        return false;
+    // A number of 32 bits.
+    fn small(&mut self) -> Option<u32> {
+        u32::try_from(self.number()?).ok()
     }
-    r.count == number(s, count)
-}
 
-// dead SHEET TABLE COMMAND > REFUSAL DEAD
-fn dead_agrees(s: &[u8], at: usize) -> bool {
-    let mut sheet = [0u8; 16400];
-    let w = word_at(s, at);
-    let n = hex(s, w, &mut sheet);
-    let table = after(s, w);
-    let command = after(s, table);
-    let refusal = after(s, after(s, command));
-    let dead = after(s, refusal);
-    let r = fiddlecomet_dead(&sheet[..n], small(s, table), small(s, command));
-    if r.refusal != small(s, refusal) {
-        return false;
+    // The length of the output that is lent, of which there is so much.
+    fn room(&mut self, most: usize) -> Option<usize>
+        ensures { IfSome result (λ n. n ≤ most) }
+    {
+        Some((self.number()? as usize).min(most))
     }
-    r.dead == small(s, dead)
-}
 
-// isolated SHEET TABLE COMMAND > REFUSAL LEAKS A B
-fn isolated_agrees(s: &[u8], at: usize) -> bool {
-    let mut sheet = [0u8; 16400];
-    let w = word_at(s, at);
-    let n = hex(s, w, &mut sheet);
-    let table = after(s, w);
-    let command = after(s, table);
-    let refusal = after(s, after(s, command));
-    let leaks = after(s, refusal);
-    let a = after(s, leaks);
-    let b = after(s, a);
-    let r = fiddlecomet_isolated(&sheet[..n], small(s, table), small(s, command));
-    if r.refusal != small(s, refusal) {
-        return false;
+    // The bytes of a word, which stand in the buffer.
+    fn bytes<'b>(&mut self, buffer: &'b mut [u8]) -> Option<&'b [u8]> {
+        let n = hex(self.words.next()?, buffer);
+        Some(&buffer[..n])
     }
-    if r.leaks != small(s, leaks) {
-        return false;
-    }
-    if r.a != small(s, a) {
-        return false;
-    }
-    r.b == small(s, b)
-}
 
-// covers SHEET A B > REFUSAL COVERS
-fn covers_agree(s: &[u8], at: usize) -> bool {
-    let mut sheet = [0u8; 16400];
-    let w = word_at(s, at);
-    let n = hex(s, w, &mut sheet);
-    let a = after(s, w);
-    let b = after(s, a);
-    let refusal = after(s, after(s, b));
-    let covers = after(s, refusal);
-    let r = fiddlecomet_covers(&sheet[..n], small(s, a), small(s, b));
-    if r.refusal != small(s, refusal) {
-        return false;
+    // A sheet, whose bytes stand in the buffer, and two numbers.
+    fn question<'b>(&mut self, buffer: &'b mut [u8]) -> Option<(&'b [u8], u32, u32)> {
+        Some((self.bytes(buffer)?, self.small()?, self.small()?))
     }
-    r.covers == small(s, covers)
-}
 
-// Does `out` begin with `bytes`, and hold FILL from there on?
-fn holds(out: &[u8], bytes: &[u8]) -> bool {
-    let mut i = 0;
-    while i < out.len() {
-        if i < bytes.len() {
-            if out[i] != bytes[i] {
-                return false;
-            }
-        } else {
-            if out[i] != FILL {
-                return false;
+    // Do the words behind the arrow spell these numbers?
+    fn expects(&mut self, numbers: &[u64]) -> Option<bool> {
+        let b">" = self.words.next()? else {
+            return None;
+        };
+        for n in numbers {
+            if self.number()? != *n {
+                return Some(false);
             }
         }
-        i += 1;
+        Some(true)
     }
-    bytes.len() <= out.len()
-}
 
-// Makes a buffer ready to be lent: every byte FILL. How much of it is lent is what is asked, or all of it.
-fn lend(out: &mut [u8], asked: u64) -> usize
-    ensures { IsPrefixLen result out.new }
-{
-    let mut i = 0;
-    while i < out.len() {
-        out[i] = FILL;
-        i += 1;
+    // Does the output begin with the bytes of the next word, and hold FILL from there on?
+    fn expects_output(&mut self, out: &[u8]) -> Option<bool> {
+        let mut buffer = [0; LIST];
+        let bytes = self.bytes(&mut buffer)?;
+        Some(out.starts_with(bytes) && out[bytes.len()..].iter().all(|b| *b == FILL))
     }
-    if (asked as usize) < i {
-        return asked as usize;
+
+    // SHEET TABLE COMMAND > REFUSAL COUNT
+    fn branches_agree(&mut self) -> Option<bool> {
+        let mut buffer = [0; SHEET];
+        let (sheet, table, command) = self.question(&mut buffer)?;
+        let r = fiddlecomet_branches(sheet, table, command);
+        self.expects(&[u64::from(r.refusal), r.count])
     }
-    i
-}
 
-// Asks for the normal form: is the reply the refusal and length expected?
-fn written(sheet: &[u8], out: &mut [u8], refusal: u32, length: u32) -> bool {
-    let r = fiddlecomet_normal_form(sheet, out);
-    if r.refusal != refusal {
-        return false;
+    // SHEET TABLE COMMAND > REFUSAL DEAD
+    fn dead_agrees(&mut self) -> Option<bool> {
+        let mut buffer = [0; SHEET];
+        let (sheet, table, command) = self.question(&mut buffer)?;
+        let r = fiddlecomet_dead(sheet, table, command);
+        self.expects(&[r.refusal, r.dead].map(u64::from))
     }
-    r.length == length
-}
 
-// ROOM > REFUSAL LENGTH OUT, behind the word w, with two buffers to work in
-fn form_agrees(s: &[u8], w: Word, sheet: &[u8], out: &mut [u8], expected: &mut [u8]) -> bool {
-    let lent = after(s, w);
-    let refusal = after(s, after(s, lent));
-    let length = after(s, refusal);
-    let bytes = after(s, length);
-    let m = hex(s, bytes, expected);
-    let k = lend(out, number(s, lent));
-    if written(sheet, &mut out[..k], small(s, refusal), small(s, length)) {
-        return holds(out, &expected[..m]);
+    // SHEET TABLE COMMAND > REFUSAL LEAKS A B
+    fn isolated_agrees(&mut self) -> Option<bool> {
+        let mut buffer = [0; SHEET];
+        let (sheet, table, command) = self.question(&mut buffer)?;
+        let r = fiddlecomet_isolated(sheet, table, command);
+        self.expects(&[r.refusal, r.leaks, r.a, r.b].map(u64::from))
     }
-    false
-}
 
-// normal SHEET ROOM > REFUSAL LENGTH OUT
-fn normal_agrees(
-    s: &[u8],
-    at: usize,
-    sheet: &mut [u8],
-    out: &mut [u8],
-    expected: &mut [u8],
-) -> bool {
-    let w = word_at(s, at);
-    let n = hex(s, w, sheet);
-    form_agrees(s, w, &sheet[..n], out, expected)
-}
-
-// Asks for a listing: is the reply the refusal, length and count expected, behind the word w?
-fn listed(
-    s: &[u8],
-    w: Word,
-    sheet: &[u8],
-    table: u32,
-    command: u32,
-    session: &[u8],
-    rows: &[u8],
-    out: &mut [u8],
-) -> bool {
-    let refusal = after(s, w);
-    let length = after(s, refusal);
-    let count = after(s, length);
-    let r = fiddlecomet_listing(sheet, table, command, session, rows, out);
-    if r.refusal != small(s, refusal) {
-        return false;
+    // SHEET A B > REFUSAL COVERS
+    fn covers_agree(&mut self) -> Option<bool> {
+        let mut buffer = [0; SHEET];
+        let (sheet, a, b) = self.question(&mut buffer)?;
+        let r = fiddlecomet_covers(sheet, a, b);
+        self.expects(&[r.refusal, r.covers].map(u64::from))
     }
-    if r.length != small(s, length) {
-        return false;
+
+    // SHEET ROOM > REFUSAL LENGTH OUT
+    fn normal_agrees(&mut self) -> Option<bool> {
+        let mut buffer = [0; SHEET];
+        let mut out = [FILL; LIST];
+        let sheet = self.bytes(&mut buffer)?;
+        let room = self.room(out.len())?;
+        let r = fiddlecomet_normal_form(sheet, &mut out[..room]);
+        Some(self.expects(&[r.refusal, r.length].map(u64::from))? && self.expects_output(&out)?)
     }
-    r.rows == small(s, count)
-}
 
-// SESSION ROWS ROOM > REFUSAL LENGTH ROWCOUNT OUT, behind the word w, with three buffers to work in
-fn rows_agree(
-    s: &[u8],
-    w: Word,
-    sheet: &[u8],
-    table: u32,
-    command: u32,
-    rows: &mut [u8],
-    out: &mut [u8],
-    expected: &mut [u8],
-) -> bool {
-    let mut session = [0u8; 256];
-    let key = after(s, w);
-    let list = after(s, key);
-    let lent = after(s, list);
-    let mark = after(s, lent);
-    let bytes = after(s, after(s, after(s, after(s, mark))));
-    let keys = hex(s, key, &mut session);
-    let n = hex(s, list, rows);
-    let m = hex(s, bytes, expected);
-    let k = lend(out, number(s, lent));
-    if listed(
-        s,
-        mark,
-        sheet,
-        table,
-        command,
-        &session[..keys],
-        &rows[..n],
-        &mut out[..k],
-    ) {
-        return holds(out, &expected[..m]);
+    // SHEET TABLE COMMAND SESSION ROWS ROOM > REFUSAL LENGTH ROWCOUNT OUT
+    fn listing_agrees(&mut self) -> Option<bool> {
+        let mut buffer = [0; SHEET];
+        let mut session_buffer = [0; 256];
+        let mut rows_buffer = [0; LIST];
+        let mut out = [FILL; LIST];
+        let (sheet, table, command) = self.question(&mut buffer)?;
+        let session = self.bytes(&mut session_buffer)?;
+        let rows = self.bytes(&mut rows_buffer)?;
+        let room = self.room(out.len())?;
+        let r = fiddlecomet_listing(sheet, table, command, session, rows, &mut out[..room]);
+        Some(
+            self.expects(&[r.refusal, r.length, r.rows].map(u64::from))?
+                && self.expects_output(&out)?,
+        )
     }
-    false
-}
 
-// listing SHEET TABLE COMMAND SESSION ROWS ROOM > REFUSAL LENGTH ROWCOUNT OUT
-fn listing_agrees(
-    s: &[u8],
-    at: usize,
-    sheet: &mut [u8],
-    rows: &mut [u8],
-    out: &mut [u8],
-    expected: &mut [u8],
-) -> bool {
-    let w = word_at(s, at);
-    let n = hex(s, w, sheet);
-    let table = after(s, w);
-    let command = after(s, table);
-    rows_agree(
-        s,
-        command,
-        &sheet[..n],
-        small(s, table),
-        small(s, command),
-        rows,
-        out,
-        expected,
-    )
-}
-
-// Does the case whose words start at a place come out as it says? Its first word's first letter tells the call.
-fn agrees(s: &[u8], at: usize) -> bool {
-    let mut sheet = [0u8; 16400];
-    let mut rows = [0u8; 65600];
-    let mut out = [0u8; 65600];
-    let mut expected = [0u8; 65600];
-    let w = word_at(s, at);
-    let next = behind(w);
-    match first(s, w) {
-        b'b' => branches_agree(s, next),
-        b'c' => covers_agree(s, next),
-        b'd' => dead_agrees(s, next),
-        b'i' => isolated_agrees(s, next),
-        b'l' => listing_agrees(s, next, &mut sheet, &mut rows, &mut out, &mut expected),
-        b'n' => normal_agrees(s, next, &mut sheet, &mut out, &mut expected),
-        _ => false,
+    // Does the case come out as it says? Its first word tells the call.
+    fn agrees(&mut self) -> Option<bool> {
+        match self.words.next()? {
+            b"branches" => self.branches_agree(),
+            b"covers" => self.covers_agree(),
+            b"dead" => self.dead_agrees(),
+            b"isolated" => self.isolated_agrees(),
+            b"listing" => self.listing_agrees(),
+            b"normal" => self.normal_agrees(),
+            _ => None,
+        }
     }
 }
 
 // Is this line a case of a public call? (A line that starts with '#' is none, and the read-out's are run by its own program.)
-fn is_case(s: &[u8], at: usize) -> bool {
-    let b = first(s, word_at(s, at));
-    if b == b'#' {
-        return false;
-    }
-    b != b'r'
+fn is_case(line: &[u8]) -> bool {
+    !matches!(first(line), b'#' | b'r')
 }
 
 // Runs each case of a file, and prints where one fails.
-fn run_cases(rt: &impl Print, name: &str, s: &[u8]) -> io::Result<()> {
-    let mut at = 0;
-    let mut passed: usize = 0;
-    let mut failed: usize = 0;
-    let mut line: usize = 0;
-    while line < s.len() {
-        if s.len() <= at {
-            break;
-        }
-        let here = at;
-        at = next_line(s, here);
-        line += 1;
-        if is_case(s, here) {
-            if agrees(s, here) {
-                passed += 1;
-                continue;
-            }
-            failed += 1;
-            say_line(rt, name, line as u64)?;
+fn run_cases(rt: &impl Print, name: &str, text: &[u8]) -> io::Result<()> {
+    let mut passed: u64 = 0;
+    let mut failed: u64 = 0;
+    for (i, line) in Lines::new(text).enumerate() {
+        if !is_case(line) {
             continue;
         }
+        let mut case = Case {
+            words: Words::new(line),
+        };
+        if case.agrees() == Some(true) {
+            passed += 1;
+        } else {
+            failed += 1;
+            println!(rt; "{name}: not as line {}", i + 1)?;
+        }
     }
-    say_end(rt, name, passed as u64, failed as u64)
+    println!(rt; "{name}: passed {passed}")?;
+    println!(rt; "{name}: failed {failed}")
 }
 
-fn say_line(rt: &impl Print, name: &str, line: u64) -> io::Result<()> {
-    say(rt, name, ": not as line ", line)
-}
-
-fn say_end(rt: &impl Print, name: &str, passed: u64, failed: u64) -> io::Result<()> {
-    say(rt, name, ": passed ", passed)?;
-    say(rt, name, ": failed ", failed)
-}
-
-fn say(rt: &impl Print, name: &str, words: &str, n: u64) -> io::Result<()> {
-    println!(rt; "{name}{words}{n}")
-}
-
-// Room for the longest file.
+// Room for the longest file. (A function of its own, since the check writes out a repeat where it stands among other goals, and runs out of stack.)
 fn space() -> [u8; 720000]
     ensures { 720000 ≡ length result }
 {
@@ -340,13 +208,8 @@ fn run_file(rt: &(impl Files + Print + Eprint), name: &str) -> io::Result<()> {
 }
 
 fn main(rt: HostRuntime) -> io::Result<()> {
-    run_file(&rt, "marked.txt")?;
-    run_file(&rt, "refusals.txt")?;
-    run_file(&rt, "order.txt")?;
-    run_file(&rt, "truncated.txt")?;
-    run_file(&rt, "limits.txt")?;
-    run_file(&rt, "large.txt")?;
-    run_file(&rt, "verdicts.txt")?;
-    run_file(&rt, "normals.txt")?;
-    run_file(&rt, "listings.txt")
+    for name in FILES {
+        run_file(&rt, name)?;
+    }
+    Ok(())
 }

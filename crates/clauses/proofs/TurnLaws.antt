@@ -1,62 +1,47 @@
 -- Readings one after another, as a loop makes them: none yet, one more, one refused; and an array that takes what was read.
-use Prim.Native.Nat.{ℕ, zero, suc, ◌+◌, ◌<◌, ◌≤◌}
+use Prim.Native.Nat.{ℕ, zero, suc, ◌+◌, ◌<◌}
 use native.Mathlib.Omega.{arith}
 use native.Mathlib.Numerals.{add-one}
 use mathlib.Core.Path.{◌≡◌, refl, sym, ap, ◌∙◌, subst}
 use mathlib.Core.List.{List, [], ◌∷◌, ◌++◌, map}
 use lib.ListN.{length, set, take}
-use Rattle.bits.specs.Fields.{place_at, code_of}
+use Rattle.std.specs.Prelude.{Result}
+use Rattle.refusals.specs.declared.Refusal.{Refusal}
+use Rattle.bits.specs.Fields.{place_at}
 use Rattle.bits.specs.declared.Place.{Place}
-use Rattle.bits.specs.declared.Field.{Field}
-use Rattle.bits.specs.declared.Field.TheVariants as field
 use Rattle.meaning.specs.Reading.{Read, found, refused, Reader, on_read, times}
-use Rattle.clauses.specs.declared.End.{End}
-use Rattle.clauses.specs.declared.End.TheVariants.{At, Refused}
-use Rattle.clauses.specs.Ends.{Got, Ends, ended, stopped, AtMost}
+use Rattle.values.specs.Reads.{Got, Answers, answered, stopped}
 
--- a reading that ended at a place found something; one that ended in a refusal was refused
-pub ends_at : {A : Type 0} {m : Read A} {H : A → Type 0} {e : End} {q : Place} → Ends m H e → e ≡ At q → Got m H q
-ends_at {A} {m} {H} {e} {q} (ended {q = r} g) h = let same : r ≡ q = cc in subst (Got m H) same g
-ends_at (stopped r) h = let z : ◌≡◌ {A = ℕ} 0 1 = cc in absurd (omega arith)
+-- where something was found, it is what the answer stands for
+pub got_item : {A : Type 0} {m : Read A} {H : A → Type 0} {r : Place} {a : A} {q : ℕ} → Got m H r → m ≡ found a q → H a
+got_item {A} {m} {H} {r} {a} {q} g h = let t : found g.item g.place ≡ found a q = sym g.read ∙ h in let same : g.item ≡ a = cc in subst H same g.holds
 
-pub ends_refused : {A : Type 0} {m : Read A} {H : A → Type 0} {e : End} {n : ℕ} → Ends m H e → e ≡ Refused n → m ≡ refused n
-ends_refused (ended g) h = let z : ◌≡◌ {A = ℕ} 0 1 = cc in absurd (omega arith)
-ends_refused {A} {m} {H} {e} {n} (stopped {n = k} r) h = let same : k ≡ n = cc in r ∙ ap refused same
-
--- where something was found, it is what holds
-pub ends_item : {A : Type 0} {m : Read A} {H : A → Type 0} {e : End} {a : A} {q : ℕ} → Ends m H e → m ≡ found a q → H a
-ends_item {A} {m} {H} {e} {a} {q} (ended g) h = let t : found g.item g.place ≡ found a q = sym g.read ∙ h in let same : g.item ≡ a = cc in subst H same g.holds
-ends_item {A} {m} {H} {e} {a} {q} (stopped {n = n} r) h = let t : refused n ≡ found a q = sym r ∙ h in let z : ◌≡◌ {A = ℕ} 0 1 = cc in absurd (omega arith)
-
--- what is refused ends so
-pub ends_lost : {A : Type 0} {m : Read A} {H : A → Type 0} {e : End} {n : ℕ} → e ≡ Refused n → m ≡ refused n → Ends m H e
-ends_lost {A} {m} {H} e r = subst (Ends m H) (sym e) (stopped r)
-
--- a field's refusal, handed on by its number
-pub field_stops : {A : Type 0} {m : Read A} {H : A → Type 0} {e : End} {f : Field} {n : ℕ} → e ≡ Refused (code_of f) → f ≡ field.Refused n → m ≡ refused n → Ends m H e
-field_stops e g r = ends_lost (e ∙ ap (λ x. Refused (code_of x)) g) r
+-- nothing was found where a reading was refused
+pub not_found : {A X : Type 0} {m : Read A} {n q : ℕ} {a : A} → m ≡ refused n → m ≡ found a q → X
+not_found {A} {X} {m} {n} {q} {a} r h = let t : refused n ≡ found a q = sym r ∙ h in let z : ◌≡◌ {A = ℕ} 0 1 = cc in absurd (omega arith)
 
 -- the same reader by another name
-pub ends_by : {A : Type 0} {m n : Read A} {H : A → Type 0} {e : End} → m ≡ n → Ends n H e → Ends m H e
-ends_by {A} {m} {n} {H} {e} h g = subst (λ x. Ends x H e) (sym h) g
+pub answers_by : {A B : Type 0} {m n : Read A} {H : B → A → Type 0} {r : Result (B × Place) Refusal} → m ≡ n → Answers n H r → Answers m H r
+answers_by {A} {B} {m} {n} {H} {r} h g = subst (λ x. Answers x H r) (sym h) g
+
+pub got_by : {A : Type 0} {m n : Read A} {H : A → Type 0} {q : Place} → m ≡ n → Got n H q → Got m H q
+got_by {A} {m} {n} {H} {q} h g = subst (λ x. Got x H q) (sym h) g
 
 -- what was found, put into another form
-pub ends_map : {A B : Type 0} {m : Read A} (f : A → B) {H : A → Type 0} {K : B → Type 0} {e : End} → ((a : A) → H a → K (f a)) → Ends m H e
-    → Ends (on_read m (λ a q. found (f a) q)) K e
-ends_map f k (ended g) =
-    ended (record { item = f g.item; place = g.place; read = ap (λ x. on_read x (λ a o. found (f a) o)) g.read; here = g.here; holds = k g.item g.holds })
-ends_map f k (stopped r) = stopped (ap (λ x. on_read x (λ a o. found (f a) o)) r)
+pub got_map : {A B : Type 0} {m : Read A} (f : A → B) {H : A → Type 0} {K : B → Type 0} {q : Place} → ((a : A) → H a → K (f a)) → Got m H q → Got (on_read m (λ a q. found (f a) q)) K q
+got_map f k g = record { item = f g.item; place = g.place; read = ap (λ x. on_read x (λ a o. found (f a) o)) g.read; here = g.here; holds = k g.item g.holds }
+
+pub answers_map : {A B C : Type 0} {m : Read A} (f : A → C) {H : B → A → Type 0} {K : B → C → Type 0} {r : Result (B × Place) Refusal} → ((b : B) (a : A) → H b a → K b (f a)) → Answers m H r
+    → Answers (on_read m (λ a q. found (f a) q)) K r
+answers_map f k (answered {b = b} g) = answered (got_map f (k b) g)
+answers_map f k (stopped r) = stopped (ap (λ x. on_read x (λ a o. found (f a) o)) r)
 
 -- the same, where the reading itself is told
-pub ends_onto : {A B : Type 0} (m : Read A) (f : A → B) {H : A → Type 0} {K : B → Type 0} {e : End} → ((a : A) (q : ℕ) → m ≡ found a q → H a → K (f a)) → Ends m H e
-    → Ends (on_read m (λ a q. found (f a) q)) K e
-ends_onto m f k (ended g) =
-    ended (record { item = f g.item; place = g.place; read = ap (λ x. on_read x (λ a o. found (f a) o)) g.read; here = g.here; holds = k g.item g.place g.read g.holds })
-ends_onto m f k (stopped r) = stopped (ap (λ x. on_read x (λ a o. found (f a) o)) r)
-
--- a count's bound
-pub at_most : {f : Field} {n high : ℕ} {q : Place} → AtMost high f → f ≡ field.Value n q → n ≤ high
-at_most {f} {n} {high} g e = subst (AtMost high) e g
+pub answers_onto : {A B C : Type 0} (m : Read A) (f : A → C) {H : B → A → Type 0} {K : B → C → Type 0} {r : Result (B × Place) Refusal} → ((b : B) (a : A) (q : ℕ) → m ≡ found a q → H b a → K b (f a))
+    → Answers m H r → Answers (on_read m (λ a q. found (f a) q)) K r
+answers_onto m f k (answered {b = b} g) =
+    answered record { item = f g.item; place = g.place; read = ap (λ x. on_read x (λ a o. found (f a) o)) g.read; here = g.here; holds = k b g.item g.place g.read g.holds }
+answers_onto m f k (stopped r) = stopped (ap (λ x. on_read x (λ a o. found (f a) o)) r)
 
 module _ {A : Type 0} (m : Reader A) (s : List ℕ) where
   -- one reading more
@@ -134,8 +119,8 @@ module _ {A : Type 0} (m : Reader A) (s : List ℕ) where
     turns_done n K e k = record { item = g.item; place = g.place; read = ap (λ x. times x m s p) (sym e) ∙ g.read; here = g.here; holds = k g.item g.holds }
 
 -- an array takes one more
-pub take_more : {A : Type 0} (l : List A) (i : ℕ) (a : A) {xs : List A} → i < length l → take i l ≡ xs → take (i + 1) (set l i a) ≡ xs ++ (a ∷ [])
-take_more l i a h e = rw (add-one, ← e) (go l i h)
+pub take_more : {A : Type 0} (l : List A) (i : ℕ) (a : A) {b : A} {xs : List A} → i < length l → take i l ≡ xs → a ≡ b → take (i + 1) (set l i a) ≡ xs ++ (b ∷ [])
+take_more l i a h e k = rw (add-one, ← e, ← k) (go l i h)
   where
     go : (l : List _) (i : ℕ) → i < length l → take (suc i) (set l i a) ≡ take i l ++ (a ∷ [])
     go [] i h = absurd (omega arith)

@@ -89,7 +89,7 @@ pub listing_exact : (s : List ℕ) (sheet : Sheet) (t command : ℕ) (session li
     ListingNumbers s t command session list out r after → r.refusal ≡ 0 →
     (kept : List Row) × Keeps (λ x. Admitted sheet t command x.columns key) rows kept × (r.length ≡ length (row_bytes kept)) × (r.rows ≡ length kept) × (after ≡ over (row_bytes kept) out)
 listing_exact s sheet t command session list out after key rows p q r a e f x z =
-    (meant.demand_2).listing_exact s sheet t command session list out after key rows p q r.length r.rows a e f (answer.listing_answered s t command session list out r after x z)
+    (meant.demand_2).listing_exact s sheet t command session list out after key rows p q (record { length = r.length; count = r.rows }) a e f (answer.listing_answered s t command session list out r after x z)
 
 -- Demand 3. "If a question is answered, a table is called isolated for a command exactly when no row is admitted for two sessions of different tenants"
 pub isolated_exact : (s : List ℕ) (sheet : Sheet) → Accepted s sheet → (t command : ℕ) (r : IsolationNumbers) → IsolatedNumbers s t command r → r.refusal ≡ 0 → (r.leaks ≡ 0) ↔ IsIsolated sheet t command
@@ -110,7 +110,8 @@ pub listing_blind : (s : List ℕ) (sheet : Sheet) (t command : ℕ) (session : 
     ListingNumbers s t command session one out r after → r.refusal ≡ 0 → ListingNumbers s t command session two out r' after' → r'.refusal ≡ 0 →
     (r.length ≡ r'.length) × (r.rows ≡ r'.rows) × (after ≡ after')
 listing_blind s sheet t command session key p a i k one two out rows rows' struck q q' e f g h r r' after after' x z y w =
-    (meant.demand_3).listing_blind s sheet t command session key p a i k one two out rows rows' struck q q' e f g h r.length r.rows r'.length r'.rows after after'
+    (meant.demand_3).listing_blind s sheet t command session key p a i k one two out rows rows' struck q q' e f g h
+    (record { length = r.length; count = r.rows }) (record { length = r'.length; count = r'.rows }) after after'
     (answer.listing_answered s t command session one out r after x z) (answer.listing_answered s t command session two out r' after' y w)
 
 -- The auditor's second question: "Is there a table from which nobody can read anything?"

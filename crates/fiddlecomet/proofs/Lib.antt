@@ -1,4 +1,3 @@
-pub mod NumberLaws
 pub mod OneLaws
 pub mod VerdictLaws
 pub mod AnswerLaws

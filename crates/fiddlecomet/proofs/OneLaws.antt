@@ -2,8 +2,9 @@
 use Prim.Native.Nat.{ℕ}
 use mathlib.Core.Path.{◌≡◌, sym, ap, ◌∙◌}
 use mathlib.Core.List.{List}
+use Rattle.std.specs.Prelude.{Result}
+use Rattle.refusals.specs.declared.Refusal.{Refusal}
 use Rattle.meaning.specs.declared.Listed.{Listed}
-use Rattle.meaning.specs.declared.Written.{Written}
 use Rattle.meaning.specs.Replies.{listed_numbers, written_numbers, life_numbers, isolation_numbers, cover_numbers, branch_numbers}
 use Rattle.meaning.proofs.UniqueLaws as meant
 use Rattle.fiddlecomet.specs.declared.numbers.ListedNumbers.{ListedNumbers}
@@ -41,12 +42,12 @@ same_count r q e = let a : r.refusal ≡ q.refusal = cc in let b : r.count ≡ q
 pub listing_one : (sheet : List ℕ) (table command : ℕ) (session rows out : List ℕ) (r q : ListedNumbers) (after other : List ℕ) →
     ListingNumbers sheet table command session rows out r after → ListingNumbers sheet table command session rows out q other → (r ≡ q) × (after ≡ other)
 listing_one sheet table command session rows out r q after other x y =
-    let one : ◌≡◌ {A = Listed × List ℕ} (x.reply, after) (y.reply, other) = meant.listing_one sheet table command session rows out (x.reply, after) (y.reply, other) x.replies y.replies in
+    let one : ◌≡◌ {A = Result Listed Refusal × List ℕ} (x.reply, after) (y.reply, other) = meant.listing_one sheet table command session rows out (x.reply, after) (y.reply, other) x.replies y.replies in
     (same_listed r q (x.numbers ∙ ap (λ z. listed_numbers z.0) one ∙ sym y.numbers), ap (λ z. z.1) one)
 
 pub normal_form_one : (sheet out : List ℕ) (r q : WrittenNumbers) (after other : List ℕ) → NormalFormNumbers sheet out r after → NormalFormNumbers sheet out q other → (r ≡ q) × (after ≡ other)
 normal_form_one sheet out r q after other x y =
-    let one : ◌≡◌ {A = Written × List ℕ} (x.reply, after) (y.reply, other) = meant.normal_form_one sheet out (x.reply, after) (y.reply, other) x.replies y.replies in
+    let one : ◌≡◌ {A = Result ℕ Refusal × List ℕ} (x.reply, after) (y.reply, other) = meant.normal_form_one sheet out (x.reply, after) (y.reply, other) x.replies y.replies in
     (same_written r q (x.numbers ∙ ap (λ z. written_numbers z.0) one ∙ sym y.numbers), ap (λ z. z.1) one)
 
 pub dead_one : (sheet : List ℕ) (table command : ℕ) (r q : LifeNumbers) → DeadNumbers sheet table command r → DeadNumbers sheet table command q → r ≡ q

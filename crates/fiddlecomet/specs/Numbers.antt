@@ -1,13 +1,10 @@
 -- The numbers that a host sees. (01, "Refusal numbers": "A refusal returns its number and zeros")
-use Rattle.std.specs.Prelude.{ℕ, ◌≤◌, ◌≡◌, List, [], ◌∷◌}
+use Rattle.std.specs.Prelude.{ℕ, ◌≤◌, ◌≡◌, List, [], ◌∷◌, Result, IfOk}
+use Rattle.refusals.specs.declared.Refusal.{Refusal}
 use Rattle.meaning.specs.declared.Listed.{Listed}
-use Rattle.meaning.specs.declared.Listed.TheVariants.{Rows}
-use Rattle.meaning.specs.declared.Written.{Written}
-use Rattle.meaning.specs.declared.Written.TheVariants.{Length}
 use Rattle.meaning.specs.declared.Life.{Life}
 use Rattle.meaning.specs.declared.Isolation.{Isolation}
 use Rattle.meaning.specs.declared.Cover.{Cover}
-use Rattle.meaning.specs.declared.BranchCount.{BranchCount}
 use Rattle.meaning.specs.Replies.{listed_numbers, written_numbers, life_numbers, isolation_numbers, cover_numbers, branch_numbers, ListingReply, NormalFormReply, DeadReply, IsolatedReply, CoversReply, BranchesReply}
 use Rattle.fiddlecomet.specs.declared.numbers.ListedNumbers.{ListedNumbers}
 use Rattle.fiddlecomet.specs.declared.numbers.WrittenNumbers.{WrittenNumbers}
@@ -39,41 +36,39 @@ count_of r = r.refusal ∷ r.count ∷ []
 abbrev pub Small : ℕ → ℕ → Type 0
 Small n r = n ≤ 65536 → r ≡ n
 
-abbrev pub ListedFits : Listed → Type 0
-ListedFits (Rows n k) = (n ≤ 65536) × (k ≤ 65536)
-ListedFits (Listed.Refused n) = Unit {0}
+abbrev pub ListedFits : Result Listed Refusal → Type 0
+ListedFits reply = IfOk reply (λ r. (r.length ≤ 65536) × (r.count ≤ 65536))
 
-abbrev pub WrittenFits : Written → Type 0
-WrittenFits (Length n) = n ≤ 65536
-WrittenFits (Written.Refused n) = Unit {0}
+abbrev pub WrittenFits : Result ℕ Refusal → Type 0
+WrittenFits reply = IfOk reply (λ n. n ≤ 65536)
 
 -- What each call promises a host: the numbers are those of a reply that document 01 gives, and the output is as it says.
 pub record ListingNumbers (sheet : List ℕ) (table command : ℕ) (session rows out : List ℕ) (r : ListedNumbers) (after : List ℕ) : Type 0 where
-  pub reply : Listed
+  pub reply : Result Listed Refusal
   pub replies : ListingReply sheet table command session rows out reply after
   pub numbers : listed_of r ≡ listed_numbers reply
 
 pub record NormalFormNumbers (sheet out : List ℕ) (r : WrittenNumbers) (after : List ℕ) : Type 0 where
-  pub reply : Written
+  pub reply : Result ℕ Refusal
   pub replies : NormalFormReply sheet out reply after
   pub numbers : written_of r ≡ written_numbers reply
 
 pub record DeadNumbers (sheet : List ℕ) (table command : ℕ) (r : LifeNumbers) : Type 0 where
-  pub reply : Life
+  pub reply : Result Life Refusal
   pub replies : DeadReply sheet table command reply
   pub numbers : life_of r ≡ life_numbers reply
 
 pub record IsolatedNumbers (sheet : List ℕ) (table command : ℕ) (r : IsolationNumbers) : Type 0 where
-  pub reply : Isolation
+  pub reply : Result Isolation Refusal
   pub replies : IsolatedReply sheet table command reply
   pub numbers : isolation_of r ≡ isolation_numbers reply
 
 pub record CoversNumbers (sheet : List ℕ) (a b : ℕ) (r : CoverNumbers) : Type 0 where
-  pub reply : Cover
+  pub reply : Result Cover Refusal
   pub replies : CoversReply sheet a b reply
   pub numbers : cover_of r ≡ cover_numbers reply
 
 pub record BranchesNumbers (sheet : List ℕ) (table command : ℕ) (r : CountNumbers) : Type 0 where
-  pub reply : BranchCount
+  pub reply : Result ℕ Refusal
   pub replies : BranchesReply sheet table command reply
   pub numbers : count_of r ≡ branch_numbers reply

@@ -23,40 +23,40 @@ pub fn fiddlecomet_listing(
 ) -> ListedNumbers
     ensures { ListingNumbers sheet.now table command session.now rows.now out.old result out.new }
 {
-    numbers::listed(listing::listing(sheet, table, command, session, rows, out))
+    ListedNumbers::from(listing::listing(sheet, table, command, session, rows, out))
 }
 
 // Writes the sheet's normal form.
 pub fn fiddlecomet_normal_form(sheet: &[u8], out: &mut [u8]) -> WrittenNumbers
     ensures { NormalFormNumbers sheet.now out.old result out.new }
 {
-    numbers::written(normal::normal_form(sheet, out))
+    WrittenNumbers::from(normal::normal_form(sheet, out))
 }
 
 // Can nobody be handed any row of the table under the command?
 pub fn fiddlecomet_dead(sheet: &[u8], table: u32, command: u32) -> LifeNumbers
     ensures { DeadNumbers sheet.now table command result }
 {
-    numbers::life(answers::dead(sheet, table, command))
+    LifeNumbers::from(answers::dead(sheet, table, command))
 }
 
 // Can no row of the table be handed to sessions of two tenants under the command? Else the first two branches that leak.
 pub fn fiddlecomet_isolated(sheet: &[u8], table: u32, command: u32) -> IsolationNumbers
     ensures { IsolatedNumbers sheet.now table command result }
 {
-    numbers::isolation(answers::isolated(sheet, table, command))
+    IsolationNumbers::from(answers::isolated(sheet, table, command))
 }
 
 // Does policy a cover policy b?
 pub fn fiddlecomet_covers(sheet: &[u8], a: u32, b: u32) -> CoverNumbers
     ensures { CoversNumbers sheet.now a b result }
 {
-    numbers::cover(answers::covers(sheet, a, b))
+    CoverNumbers::from(answers::covers(sheet, a, b))
 }
 
 // N: how many branches the table has under the command.
 pub fn fiddlecomet_branches(sheet: &[u8], table: u32, command: u32) -> CountNumbers
     ensures { BranchesNumbers sheet.now table command result }
 {
-    numbers::branch_count(answers::branches(sheet, table, command))
+    CountNumbers::from(answers::branches(sheet, table, command))
 }

@@ -1,12 +1,13 @@
-// The numbers that a host sees of each reply.
+// The numbers that a host sees of each reply: "A refusal returns its number and zeros".
 ghost use Rattle.std.specs.Prelude.{◌≡◌};
 ghost use Rattle.meaning.specs.Replies.{listed_numbers, written_numbers, life_numbers, isolation_numbers, cover_numbers, branch_numbers};
 ghost use Rattle.fiddlecomet.specs.Numbers.{listed_of, written_of, life_of, isolation_of, cover_of, count_of, ListedFits, WrittenFits, Small};
 
-use meaning::{BranchCount, Cover, Isolation, Life, Listed, Written};
+use meaning::{Cover, Isolation, Life, Listed};
+use refusals::Refusal;
 
 #[repr(C)]
-#[derive(Clone, Copy)]
+#[derive(Clone, Copy, Debug, Default, PartialEq, Eq)]
 pub struct ListedNumbers {
     pub refusal: u32,
     pub length: u32,
@@ -14,21 +15,21 @@ pub struct ListedNumbers {
 }
 
 #[repr(C)]
-#[derive(Clone, Copy)]
+#[derive(Clone, Copy, Debug, Default, PartialEq, Eq)]
 pub struct WrittenNumbers {
     pub refusal: u32,
     pub length: u32,
 }
 
 #[repr(C)]
-#[derive(Clone, Copy)]
+#[derive(Clone, Copy, Debug, Default, PartialEq, Eq)]
 pub struct LifeNumbers {
     pub refusal: u32,
     pub dead: u32,
 }
 
 #[repr(C)]
-#[derive(Clone, Copy)]
+#[derive(Clone, Copy, Debug, Default, PartialEq, Eq)]
 pub struct IsolationNumbers {
     pub refusal: u32,
     pub leaks: u32,
@@ -37,132 +38,127 @@ pub struct IsolationNumbers {
 }
 
 #[repr(C)]
-#[derive(Clone, Copy)]
+#[derive(Clone, Copy, Debug, Default, PartialEq, Eq)]
 pub struct CoverNumbers {
     pub refusal: u32,
     pub covers: u32,
 }
 
 #[repr(C)]
-#[derive(Clone, Copy)]
+#[derive(Clone, Copy, Debug, Default, PartialEq, Eq)]
 pub struct CountNumbers {
     pub refusal: u32,
     pub count: u64,
 }
 
-// 32 bits of a number; all of it where it is at most 65,536.
+// A number in 32 bits, which hold all of it where it is at most 65,536.
 fn small(n: usize) -> u32
     ensures { Small n result }
 {
-    (n % 4294967296) as u32
+    u32::try_from(n).unwrap_or(u32::MAX)
 }
 
-pub fn listed(reply: Listed) -> ListedNumbers
-    ensures { ListedFits reply → listed_of result ≡ listed_numbers reply }
-{
-    match reply {
-        Listed::Rows { length, count } => ListedNumbers {
-            refusal: 0,
-            length: small(length),
-            rows: small(count),
-        },
-        Listed::Refused(n) => ListedNumbers {
-            refusal: n,
-            length: 0,
-            rows: 0,
-        },
+impl From<Result<Listed, Refusal>> for ListedNumbers {
+    ghost from_gives = { λ reply r. ListedFits reply → listed_of r ≡ listed_numbers reply };
+
+    fn from(reply: Result<Listed, Refusal>) -> ListedNumbers {
+        match reply {
+            Ok(listed) => ListedNumbers {
+                refusal: 0,
+                length: small(listed.length),
+                rows: small(listed.count),
+            },
+            Err(e) => ListedNumbers {
+                refusal: e.number(),
+                ..ListedNumbers::default()
+            },
+        }
     }
 }
 
-pub fn written(reply: Written) -> WrittenNumbers
-    ensures { WrittenFits reply → written_of result ≡ written_numbers reply }
-{
-    match reply {
-        Written::Length(length) => WrittenNumbers {
-            refusal: 0,
-            length: small(length),
-        },
-        Written::Refused(n) => WrittenNumbers {
-            refusal: n,
-            length: 0,
-        },
+impl From<Result<usize, Refusal>> for WrittenNumbers {
+    ghost from_gives = { λ reply r. WrittenFits reply → written_of r ≡ written_numbers reply };
+
+    fn from(reply: Result<usize, Refusal>) -> WrittenNumbers {
+        match reply {
+            Ok(length) => WrittenNumbers {
+                refusal: 0,
+                length: small(length),
+            },
+            Err(e) => WrittenNumbers {
+                refusal: e.number(),
+                ..WrittenNumbers::default()
+            },
+        }
     }
 }
 
-pub fn life(reply: Life) -> LifeNumbers
-    ensures { life_of result ≡ life_numbers reply }
-{
-    match reply {
-        Life::Live => LifeNumbers {
-            refusal: 0,
-            dead: 0,
-        },
-        Life::Dead => LifeNumbers {
-            refusal: 0,
-            dead: 1,
-        },
-        Life::Refused(n) => LifeNumbers {
-            refusal: n,
-            dead: 0,
-        },
+impl From<Result<Life, Refusal>> for LifeNumbers {
+    ghost from_gives = { λ reply r. life_of r ≡ life_numbers reply };
+
+    fn from(reply: Result<Life, Refusal>) -> LifeNumbers {
+        match reply {
+            Ok(Life::Live) => LifeNumbers::default(),
+            Ok(Life::Dead) => LifeNumbers {
+                dead: 1,
+                ..LifeNumbers::default()
+            },
+            Err(e) => LifeNumbers {
+                refusal: e.number(),
+                ..LifeNumbers::default()
+            },
+        }
     }
 }
 
-pub fn isolation(reply: Isolation) -> IsolationNumbers
-    ensures { isolation_of result ≡ isolation_numbers reply }
-{
-    match reply {
-        Isolation::Isolated => IsolationNumbers {
-            refusal: 0,
-            leaks: 0,
-            a: 0,
-            b: 0,
-        },
-        Isolation::Leaks(a, b) => IsolationNumbers {
-            refusal: 0,
-            leaks: 1,
-            a,
-            b,
-        },
-        Isolation::Refused(n) => IsolationNumbers {
-            refusal: n,
-            leaks: 0,
-            a: 0,
-            b: 0,
-        },
+impl From<Result<Isolation, Refusal>> for IsolationNumbers {
+    ghost from_gives = { λ reply r. isolation_of r ≡ isolation_numbers reply };
+
+    fn from(reply: Result<Isolation, Refusal>) -> IsolationNumbers {
+        match reply {
+            Ok(Isolation::Isolated) => IsolationNumbers::default(),
+            Ok(Isolation::Leaks(a, b)) => IsolationNumbers {
+                refusal: 0,
+                leaks: 1,
+                a,
+                b,
+            },
+            Err(e) => IsolationNumbers {
+                refusal: e.number(),
+                ..IsolationNumbers::default()
+            },
+        }
     }
 }
 
-pub fn cover(reply: Cover) -> CoverNumbers
-    ensures { cover_of result ≡ cover_numbers reply }
-{
-    match reply {
-        Cover::Covers => CoverNumbers {
-            refusal: 0,
-            covers: 1,
-        },
-        Cover::Misses => CoverNumbers {
-            refusal: 0,
-            covers: 0,
-        },
-        Cover::Refused(n) => CoverNumbers {
-            refusal: n,
-            covers: 0,
-        },
+impl From<Result<Cover, Refusal>> for CoverNumbers {
+    ghost from_gives = { λ reply r. cover_of r ≡ cover_numbers reply };
+
+    fn from(reply: Result<Cover, Refusal>) -> CoverNumbers {
+        match reply {
+            Ok(Cover::Covers) => CoverNumbers {
+                covers: 1,
+                ..CoverNumbers::default()
+            },
+            Ok(Cover::Misses) => CoverNumbers::default(),
+            Err(e) => CoverNumbers {
+                refusal: e.number(),
+                ..CoverNumbers::default()
+            },
+        }
     }
 }
 
-pub fn branch_count(reply: BranchCount) -> CountNumbers
-    ensures { count_of result ≡ branch_numbers reply }
-{
-    match reply {
-        BranchCount::Branches(n) => CountNumbers {
-            refusal: 0,
-            count: n,
-        },
-        BranchCount::Refused(n) => CountNumbers {
-            refusal: n,
-            count: 0,
-        },
+impl From<Result<u64, Refusal>> for CountNumbers {
+    ghost from_gives = { λ reply r. count_of r ≡ branch_numbers reply };
+
+    fn from(reply: Result<u64, Refusal>) -> CountNumbers {
+        match reply {
+            Ok(count) => CountNumbers { refusal: 0, count },
+            Err(e) => CountNumbers {
+                refusal: e.number(),
+                ..CountNumbers::default()
+            },
+        }
     }
 }

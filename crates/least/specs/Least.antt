@@ -1,21 +1,7 @@
 -- The least value of one class of equal variables.
-use Rattle.std.specs.Prelude.{ℕ, ◌+◌, ◌*◌, ◌≤◌, ◌<◌, ◌^◌, ◌≡◌, false, List, length, get_or}
+use Rattle.std.specs.Prelude.{ℕ, ◌+◌, ◌*◌, ◌≤◌, ◌<◌, ◌^◌, ◌≡◌, Bool, true, false, List, get_or, Option, Some, None}
 use Rattle.words.specs.Meaning.{Test, allows, var_at, op_at, test_at, atoms}
-use Rattle.least.specs.declared.Found.{Found}
-use Rattle.least.specs.declared.Found.TheVariants.{At, Nothing}
 use Rattle.least.specs.declared.Span.{Span}
-
--- the larger c of a and b
-pub record Larger (a b c : ℕ) : Type 0 where
-  pub left : a ≤ c
-  pub right : b ≤ c
-  pub least : (n : ℕ) → a ≤ n → b ≤ n → c ≤ n
-
--- the smaller c of a and b
-pub record Smaller (a b c : ℕ) : Type 0 where
-  pub left : c ≤ a
-  pub right : c ≤ b
-  pub most : (n : ℕ) → n ≤ a → n ≤ b → n ≤ c
 
 -- x passes every test of class r
 abbrev pub Allowed : List ℕ → List ℕ → ℕ → ℕ → Type 0
@@ -37,61 +23,47 @@ pub record Spans (s rep : List ℕ) (r start k : ℕ) (t : Span) : Type 0 where
   pub under : (n : ℕ) → start ≤ n → Allowed s rep r n → t.low ≤ n
   pub over : (n : ℕ) → n < 2 ^ 64 → Allowed s rep r n → n ≤ t.high
   pub whole : (n : ℕ) → t.low ≤ n → n ≤ t.high → (i : ℕ) → i < k → Of s rep r i → (op_at s i ≡ 1 → ⊥) → (op_at s i ≡ 2 → ⊥) → allows (test_at s i) n
-  pub listed : t.list < atoms s → Of s rep r t.list × (op_at s t.list ≡ 1)
-  pub unlisted : atoms s ≤ t.list → (i : ℕ) → i < k → Of s rep r i → op_at s i ≡ 1 → ⊥
+  pub listed : (i : ℕ) → t.list ≡ Some i → (i < atoms s) × Of s rep r i × (op_at s i ≡ 1)
+  pub unlisted : t.list ≡ None → (i : ℕ) → i < k → Of s rep r i → op_at s i ≡ 1 → ⊥
   pub unstruck : t.struck ≡ false → (i : ℕ) → i < k → Of s rep r i → op_at s i ≡ 2 → ⊥
 
 -- the first c values of atom i are marked by how far they lie above x
-pub record Strikes (s : List ℕ) (i x c : ℕ) (old marks : List ℕ) : Type 0 where
-  pub size : length marks ≡ length old
-  pub free : (j : ℕ) → j < 2112 → get_or marks j 0 ≡ 0 → (get_or old j 0 ≡ 0) × ((k : ℕ) → k < c → get_or s (i * 11 + 3 + k) 0 ≡ x + j → ⊥)
-  pub struck : (j : ℕ) → (get_or marks j 0 ≡ 0 → ⊥) → get_or old j 0 ≡ 0 → (k : ℕ) × (k < c) × (get_or s (i * 11 + 3 + k) 0 ≡ x + j)
+pub record Strikes (s : List ℕ) (i x c : ℕ) (old marks : List Bool) : Type 0 where
+  pub free : (j : ℕ) → j < 2112 → get_or marks j false ≡ false → (get_or old j false ≡ false) × ((k : ℕ) → k < c → get_or s (i * 11 + 3 + k) 0 ≡ x + j → ⊥)
+  pub struck : (j : ℕ) → get_or marks j false ≡ true → get_or old j false ≡ false → (k : ℕ) × (k < c) × (get_or s (i * 11 + 3 + k) 0 ≡ x + j)
 
 -- of x, x + 1, .. those are marked that the not-in lists among the first k atoms strike out of class r
-pub record Marks (s rep : List ℕ) (r x k : ℕ) (marks : List ℕ) : Type 0 where
-  pub free : (j : ℕ) → j < 2112 → get_or marks j 0 ≡ 0 → (i : ℕ) → i < k → Of s rep r i → op_at s i ≡ 2 → allows (test_at s i) (x + j)
-  pub struck : (j : ℕ) → (get_or marks j 0 ≡ 0 → ⊥) → Allowed s rep r (x + j) → ⊥
+pub record Marks (s rep : List ℕ) (r x k : ℕ) (marks : List Bool) : Type 0 where
+  pub free : (j : ℕ) → j < 2112 → get_or marks j false ≡ false → (i : ℕ) → i < k → Of s rep r i → op_at s i ≡ 2 → allows (test_at s i) (x + j)
+  pub struck : (j : ℕ) → get_or marks j false ≡ true → Allowed s rep r (x + j) → ⊥
 
 -- the first place that is not marked, or the number of places
-pub record Gap (marks : List ℕ) (j : ℕ) : Type 0 where
-  pub full : (k : ℕ) → k < j → get_or marks k 0 ≡ 0 → ⊥
-  pub free : j < 2112 → get_or marks j 0 ≡ 0
+pub record Gap (marks : List Bool) (j : ℕ) : Type 0 where
+  pub full : (k : ℕ) → k < j → get_or marks k false ≡ true
+  pub free : j < 2112 → get_or marks j false ≡ false
 
 -- the first of low..=high that no not-in list of class r strikes out, as far as the class's values go
-abbrev pub FirstFree : List ℕ → List ℕ → ℕ → ℕ → ℕ → Found → Type 0
-FirstFree s rep r low high (At y) =
+abbrev pub FirstFree : List ℕ → List ℕ → ℕ → ℕ → ℕ → Option ℕ → Type 0
+FirstFree s rep r low high (Some y) =
     (low ≤ y) × (y ≤ high) × ((i : ℕ) → i < atoms s → Of s rep r i → op_at s i ≡ 2 → allows (test_at s i) y) × ((n : ℕ) → low ≤ n → Allowed s rep r n → y ≤ n)
-FirstFree s rep r low high Nothing = (n : ℕ) → low ≤ n → n ≤ high → Allowed s rep r n → ⊥
+FirstFree s rep r low high None = (n : ℕ) → low ≤ n → n ≤ high → Allowed s rep r n → ⊥
 
 -- y passes the lists of atom i
 pub record Fair (s : List ℕ) (i y : ℕ) : Type 0 where
   pub ins : op_at s i ≡ 1 → allows (test_at s i) y
   pub outs : op_at s i ≡ 2 → allows (test_at s i) y
 
--- a mark of y that stays or goes by the lists of atom i
-pub record Sifts (s : List ℕ) (i y old new : ℕ) : Type 0 where
-  pub stays : (new ≡ 0 → ⊥) → (old ≡ 0 → ⊥) × Fair s i y
-  pub goes : new ≡ 0 → (old ≡ 0 → ⊥) → allows (test_at s i) y → ⊥
+-- y passes every list among the first k atoms of class r
+abbrev pub FairAll : List ℕ → List ℕ → ℕ → ℕ → ℕ → Type 0
+FairAll s rep r k y = (i : ℕ) → i < k → Of s rep r i → Fair s i y
 
--- of the eight numbers from b on, those stay that pass the lists among the first k atoms of class r
-pub record Lives (s rep : List ℕ) (r b k : ℕ) (live : List ℕ) : Type 0 where
-  pub fair : (j : ℕ) → j < 8 → (get_or live j 0 ≡ 0 → ⊥) → (i : ℕ) → i < k → Of s rep r i → Fair s i (get_or s (b + j) 0)
-  pub gone : (j : ℕ) → j < 8 → get_or live j 0 ≡ 0 → Allowed s rep r (get_or s (b + j) 0) → ⊥
-
--- the least in low..=high of those of the first k numbers from b on that are left
-abbrev pub Best : List ℕ → List ℕ → ℕ → ℕ → ℕ → ℕ → Found → Type 0
-Best s live b low high k (At m) =
-    (low ≤ m) × (m ≤ high) × ((j : ℕ) × (j < k) × (get_or live j 0 ≡ 0 → ⊥) × (get_or s (b + j) 0 ≡ m))
-    × ((j : ℕ) → j < k → (get_or live j 0 ≡ 0 → ⊥) → low ≤ get_or s (b + j) 0 → m ≤ get_or s (b + j) 0)
-Best s live b low high k Nothing = (j : ℕ) → j < k → (get_or live j 0 ≡ 0 → ⊥) → low ≤ get_or s (b + j) 0 → get_or s (b + j) 0 ≤ high → ⊥
-
--- the least in low..=high of the eight numbers from b on that passes every list of class r, as far as the class's values are among them
-abbrev pub FirstListed : List ℕ → List ℕ → ℕ → ℕ → ℕ → ℕ → Found → Type 0
-FirstListed s rep r b low high (At y) =
-    (low ≤ y) × (y ≤ high) × ((i : ℕ) → i < atoms s → Of s rep r i → Fair s i y) × ((j : ℕ) → j < 8 → low ≤ get_or s (b + j) 0 → Allowed s rep r (get_or s (b + j) 0) → y ≤ get_or s (b + j) 0)
-FirstListed s rep r b low high Nothing = (j : ℕ) → j < 8 → low ≤ get_or s (b + j) 0 → get_or s (b + j) 0 ≤ high → Allowed s rep r (get_or s (b + j) 0) → ⊥
+-- the least in low..=high of the first k values that passes every list of class r, as far as the class's values are among them
+abbrev pub FirstListed : List ℕ → List ℕ → ℕ → List ℕ → ℕ → ℕ → ℕ → Option ℕ → Type 0
+FirstListed s rep r values low high k (Some y) =
+    (low ≤ y) × (y ≤ high) × FairAll s rep r (atoms s) y × ((j : ℕ) → j < k → low ≤ get_or values j 0 → Allowed s rep r (get_or values j 0) → y ≤ get_or values j 0)
+FirstListed s rep r values low high k None = (j : ℕ) → j < k → low ≤ get_or values j 0 → get_or values j 0 ≤ high → Allowed s rep r (get_or values j 0) → ⊥
 
 -- the least value of class r at or above start
-abbrev pub LeastOf : List ℕ → List ℕ → ℕ → ℕ → Found → Type 0
-LeastOf s rep r start (At m) = (start ≤ m) × Allowed s rep r m × ((n : ℕ) → start ≤ n → Allowed s rep r n → m ≤ n)
-LeastOf s rep r start Nothing = (n : ℕ) → n < 2 ^ 64 → start ≤ n → Allowed s rep r n → ⊥
+abbrev pub LeastOf : List ℕ → List ℕ → ℕ → ℕ → Option ℕ → Type 0
+LeastOf s rep r start (Some m) = (start ≤ m) × Allowed s rep r m × ((n : ℕ) → start ≤ n → Allowed s rep r n → m ≤ n)
+LeastOf s rep r start None = (n : ℕ) → n < 2 ^ 64 → start ≤ n → Allowed s rep r n → ⊥

@@ -1,15 +1,18 @@
 -- What is at hand when the rows are listed, and what is still asked then.
-use Rattle.std.specs.Prelude.{ℕ, ◌<◌, ◌≤◌, ◌≡◌, List, length, get_or}
+use Rattle.std.specs.Prelude.{ℕ, ◌≤◌, ◌≡◌, List, Result, Ok}
 use Rattle.lists.specs.Lists.{keep, each}
+use Rattle.refusals.specs.declared.Refusal.{Refusal}
 use Rattle.meaning.specs.declared.Content.TheVariants.{Null}
 use Rattle.meaning.specs.declared.Listed.{Listed}
-use Rattle.meaning.specs.declared.Listed.TheVariants.{Rows}
-use Rattle.meaning.specs.Values.{kind_number, Contents, with}
+use Rattle.meaning.specs.Values.{Contents, with}
 use Rattle.meaning.specs.Sheets.{Sheet, kind_of, table_at, holds, permissive, restrictive, admits}
-use Rattle.meaning.specs.Reading.{Row, read_session, read_rows}
-use Rattle.meaning.specs.Replies.{Asked, asks, formed, ◌>>=◌, Replies, row_bytes, over}
+use Rattle.meaning.specs.Packed.{packed}
+use Rattle.meaning.specs.Reading.{Row, found, read_session, read_rows}
+use Rattle.meaning.specs.Replies.{Asked, asks, formed, ◌>>=◌, Replies, Untouched, WritesRows}
+use Rattle.rows.specs.declared.form.Form.{Form}
 use Rattle.rows.specs.Held.{Fields}
-use Rattle.admission.specs.Plan.{PlanLaid}
+use Rattle.admission.specs.declared.plan.Plan.{Plan}
+use Rattle.admission.specs.Plan.{Kinds, PlanLaid}
 
 -- the rows of a list that a session is admitted to
 abbrev pub admitted : Sheet → ℕ → ℕ → Contents → List Row → List Row
@@ -23,21 +26,24 @@ asked_of sheet t command session list = do
   asks (admitted sheet t command key rows)
 
 -- the reply to what is asked, and what the output holds then
-abbrev pub Lists : Asked (List Row) → List ℕ → Listed → List ℕ → Type 0
-Lists asked out reply after =
-    Replies asked
-    (λ n. (reply ≡ Listed.Refused n) × (after ≡ out))
-    (λ rows. (reply ≡ Rows (length (row_bytes rows)) (length rows)) × (after ≡ over (row_bytes rows) out))
+abbrev pub Lists : Asked (List Row) → List ℕ → Result Listed Refusal → List ℕ → Type 0
+Lists asked out reply after = Replies asked (λ n. Untouched n reply out after) (λ rows. WritesRows rows reply out after)
 
 -- a plan of the policies that count for a table and a command
-abbrev pub PlanOf : Sheet → ℕ → ℕ → (s words heads counts : List ℕ) → (some all : ℕ) → Type 0
-PlanOf sheet t command s words heads counts some all =
-    PlanLaid (kind_of sheet) s words heads counts some all (each (λ cs. cs) (permissive sheet t command)) (restrictive sheet t command)
+abbrev pub PlanOf : Sheet → ℕ → ℕ → Plan → Type 0
+PlanOf sheet t command plan = PlanLaid (kind_of sheet) (packed sheet) plan (each (λ cs. cs) (permissive sheet t command)) (restrictive sheet t command)
 
--- the numbers that the rows are read by are the table's, the plan is that of the table and command, and the variables that are not of the row
--- hold what they hold for the session
-pub record Ready (s words heads counts : List ℕ) (some all there columns : ℕ) (kinds : List ℕ) (sheet : Sheet) (t command : ℕ) (key now : Contents) : Type 0 where
-  pub fields : Fields there 0 columns kinds (holds (table_at sheet t)) sheet.columns
-  pub kind : (v : ℕ) → v < 24 → kind_number (kind_of sheet v) ≡ get_or kinds v 0
-  pub laid : PlanOf sheet t command s words heads counts some all
-  pub others : (v : ℕ) → columns ≤ v → now v ≡ with (λ c. Null) key v
+-- the form that the rows are read by is the table's, the plan is that of the table and command, and the variables that are not of the row hold
+-- what they hold for the session
+pub record Ready (plan : Plan) (form : Form) (sheet : Sheet) (t command : ℕ) (key now : Contents) : Type 0 where
+  pub first : form.first ≡ 0
+  pub fields : Fields form (holds (table_at sheet t)) sheet.columns
+  pub kind : Kinds (kind_of sheet) form.kinds
+  pub laid : PlanOf sheet t command plan
+  pub others : (v : ℕ) → form.n ≤ v → now v ≡ with (λ c. Null) key v
+
+-- of a list that is of the form, the admitted rows are written, when all is ready
+abbrev pub WritesAdmitted : (plan : Plan) (form : Form) (sheet : Sheet) (now : Contents) (list out : List ℕ) → Listed → List ℕ → Type 0
+WritesAdmitted plan form sheet now list out reply after =
+    (t command : ℕ) (key : Contents) (rows : List Row) (q : ℕ) → Ready plan form sheet t command key now → read_rows sheet (table_at sheet t) list ≡ found rows q
+    → WritesRows (admitted sheet t command key rows) (Ok reply) out after

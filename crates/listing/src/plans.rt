@@ -1,69 +1,53 @@
 // The policies that count for a table and a command, laid out as a plan: the permissive ones' clauses from slot 0 up, each restrictive one at
 // eight slots of its own from the last down.
-ghost use Rattle.std.specs.Prelude.{◌≡◌, ◌+◌, ◌*◌, ◌≤◌, ◌<◌, length};
-ghost use Rattle.meaning.specs.Sheets as m;
-ghost use Rattle.meaning.specs.Sheets.{Sheet, kind_of};
-ghost use Rattle.sheet.specs.Directory.{PolicyAt, Described};
+ghost use Rattle.std.specs.Prelude.{◌+◌, ◌*◌, ◌≤◌, ◌<◌, length};
+ghost use Rattle.meaning.specs.Sheets.{kind_of, policy_at};
+ghost use Rattle.meaning.specs.Packed.{packed};
 ghost use Rattle.admission.specs.Plan.{ClausesLaid, Outside};
 ghost use Rattle.listing.specs.Ready.{PlanOf};
 
-use crate::Plan;
-use admission::lay_clause;
-use sheet::entries::{count_of, restrictive_of, start_of, up_to};
-use sheet::{Directory, applies};
+use admission::{Plan, lay_clause};
+use sheet::Accepted;
 
 // Lays the clauses of policy p from a slot on; how many there are.
 fn lay_policy(
-    s: &[u8],
-    book: &[u32],
+    a: &Accepted,
     p: usize,
     words: &mut [u16; 1024],
     heads: &mut [u64; 128],
     slot: usize,
 ) -> usize
-    requires { (slot + 8 ≤ 128) × (length words.old ≡ 1024) × (length heads.old ≡ 128) }
-    ensures { (length words.new ≡ 1024) × (length heads.new ≡ 128) × (result ≤ 8) × Outside (slot * 8) (slot * 8 + 64) words.old words.new × Outside slot (slot + 8) heads.old heads.new × ((facts : Sheet) (x : m.Policy) → length s.now ≤ 16384 → p < 16 → PolicyAt s.now facts x book.now (48 + p * 12) → ClausesLaid (kind_of facts) s.now words.new heads.new slot (slot + result) x.clauses) }
+    requires { slot + 8 ≤ 128 }
+    ensures few { result ≤ 8 }
+    ensures words { Outside (slot * 8) (slot * 8 + 64) words.old words.new }
+    ensures heads { Outside slot (slot + 8) heads.old heads.new }
+    ensures laid { ClausesLaid (kind_of a.now) (packed a.now) words.new heads.new slot (slot + result) (policy_at a.now p).clauses }
 {
-    let n = up_to(8, count_of(book, p) as u64);
-    let mut k: usize = 0;
-    while k < n {
-        heads[slot + k] = lay_clause(s, start_of(book, p, k), words, slot + k);
-        k += 1;
+    let n = a.clause_count(p);
+    for k in 0..n {
+        heads[slot + k] = lay_clause(a.bytes(), a.clause_start(p, k), words, slot + k);
     }
     n
 }
 
-// Lays the policies that count for a table and a command.
-pub fn lay_policies(
-    s: &[u8],
-    d: Directory,
-    book: &[u32],
-    t: usize,
-    command: u64,
-    words: &mut [u16; 1024],
-    heads: &mut [u64; 128],
-    counts: &mut [u8; 16],
-) -> Plan
-    requires { (length words.old ≡ 1024) × (length heads.old ≡ 128) × (length counts.old ≡ 16) }
-    ensures { (length words.new ≡ 1024) × (length heads.new ≡ 128) × (length counts.new ≡ 16) × (result.some ≤ 128) × (result.all ≤ 16) × ((sheet : Sheet) → length s.now ≤ 16384 → Described s.now sheet d book.now → t < length sheet.tables → PlanOf sheet t command s.now words.new heads.new counts.new result.some result.all) }
+// Lays the policies that count for a table and a command. The plan is lent, so that its 3 KB stand on the stack once.
+pub fn lay_policies(a: &Accepted, t: usize, command: u64, plan: &mut Plan)
+    ensures { t < length a.now.tables → PlanOf a.now t command plan.new }
 {
-    let n = up_to(16, d.policies);
-    let mut some: usize = 0;
-    let mut all: usize = 0;
-    let mut p: usize = 0;
-    while p < n {
-        if applies(s, d, book, t, command, p) {
-            if restrictive_of(book, p) {
-                counts[all] = lay_policy(s, book, p, words, heads, 120 - 8 * all) as u8;
-                all += 1;
-                p += 1;
-                continue;
-            }
-            some += lay_policy(s, book, p, words, heads, some);
-            p += 1;
+    let mut some = 0;
+    let mut all = 0;
+    for p in 0..a.policies() {
+        if !a.applies(t, command, p) {
             continue;
         }
-        p += 1;
+        if a.is_restrictive(p) {
+            let slot = 120 - 8 * all;
+            plan.counts[all] = lay_policy(a, p, &mut plan.words, &mut plan.heads, slot) as u8;
+            all += 1;
+        } else {
+            some += lay_policy(a, p, &mut plan.words, &mut plan.heads, some);
+        }
     }
-    Plan { some, all }
+    plan.some = some;
+    plan.all = all;
 }

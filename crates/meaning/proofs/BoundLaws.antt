@@ -9,10 +9,8 @@ use lib.Dec.{leb, eqb}
 use borrow.Author.Tests.{leb-true}
 use Rattle.lists.specs.Lists.{keep}
 use Rattle.bits.specs.Bits.{number}
+use Rattle.std.specs.Prelude.{Ok}
 use Rattle.meaning.specs.declared.Listed.{Listed}
-use Rattle.meaning.specs.declared.Listed.TheVariants.{Rows}
-use Rattle.meaning.specs.declared.Written.{Written}
-use Rattle.meaning.specs.declared.Written.TheVariants.{Length}
 use Rattle.meaning.specs.declared.Content.TheVariants.{Null, Value}
 use Rattle.meaning.specs.Values.{Kind, last, raw, with}
 use Rattle.meaning.specs.Sheets.{Table, Sheet, table_at, admits, holds}
@@ -20,11 +18,11 @@ use Rattle.meaning.specs.Packed.{packed}
 use Rattle.meaning.specs.Reading.{Read, found, refused, Reader, on_read, need, give, field, value, content, contents, padding, nothing_more, row, rows, Row, read_rows, read_sheet, read_session}
 use Rattle.meaning.specs.Steps.{NormalSheet}
 use Rattle.meaning.specs.Replies as asked
-use Rattle.meaning.specs.Replies.{Asked, asks, refuses, ◌>>=◌, ◌>>◌, whole, formed, asked_table, asked_rows, asked_normal, Replies, row_bytes, over, ListingReply, NormalFormReply}
+use Rattle.meaning.specs.Replies.{Asked, asks, refuses, ◌>>=◌, ◌>>◌, whole, formed, asked_table, asked_rows, asked_normal, Replies, Untouched, WritesRows, WritesForm, row_bytes, ListingReply, NormalFormReply}
 use Rattle.meaning.proofs.ReadLaws.{read_split, need_true, found_same}
 use Rattle.meaning.proofs.CodecLaws.{found_end, not_found}
 use Rattle.meaning.proofs.SheetLaws.{accepted_as}
-use Rattle.meaning.proofs.ListingLaws.{asks_same, asked_split, passed}
+use Rattle.meaning.proofs.ListingLaws.{ok_same, asks_same, asked_split, passed}
 
 -- what is read ends no earlier than it begins
 abbrev Forward : {A : Type 0} → Reader A → Type 0
@@ -164,49 +162,41 @@ asked_fewer s t command session list out ks h =
     subst (λ z. Fewer z 65536 65536) (asks_same d.2) (keep_fewer (λ r. admits a.0 t command (with r.columns c.0)) d.0 65536 65536 f)
 
 -- "A row list has at most 65,536 bytes": so has a listing, and no more rows
-pub listing_bounded : (s : List ℕ) (t command : ℕ) (session list out : List ℕ) (n k : ℕ) (after : List ℕ) → ListingReply s t command session list out (Rows n k) after → (n ≤ 65536) × (k ≤ 65536)
+pub listing_bounded : (s : List ℕ) (t command : ℕ) (session list out : List ℕ) (reply : Listed) (after : List ℕ) →
+    ListingReply s t command session list out (Ok reply) after → (reply.length ≤ 65536) × (reply.count ≤ 65536)
 unfolding ListingReply
-listing_bounded s t command session list out n k after h = go (asked_rows s t command session list out) refl h
+listing_bounded s t command session list out reply after h = go (asked_rows s t command session list out) refl h
   where
-    no_rows : (m : ℕ) → Rows n k ≡ Listed.Refused m → ⊥
-    no_rows m e = let z : ◌≡◌ {A = ℕ} 0 1 = cc in omega arith
-
     go : (x : Asked (List Row)) → asked_rows s t command session list out ≡ x →
-        Replies x (λ c. (Rows n k ≡ Listed.Refused c) × (after ≡ out)) (λ rs. (Rows n k ≡ Rows (length (row_bytes rs)) (length rs)) × (after ≡ over (row_bytes rs) out)) → (n ≤ 65536) × (k ≤ 65536)
+        Replies x (λ c. Untouched c (Ok reply) out after) (λ rs. WritesRows rs (Ok reply) out after) → (reply.length ≤ 65536) × (reply.count ≤ 65536)
     go (asks rs) e r =
         let f = asked_fewer s t command session list out rs e in
         let a = f.total in
         let b = f.count in
-        let g = r.0 in
-        let c : n ≡ length (row_bytes rs) = cc in
-        let d : k ≡ length rs = cc in
+        let c = ap (λ z. z.length) (ok_same r.0) in
+        let d = ap (λ z. z.count) (ok_same r.0) in
         (omega arith, omega arith)
-    go (refuses m) e r = absurd (no_rows m r.0)
+    go (refuses m) e r = absurd r.0
 
 -- "A sheet has at most 16,384 bytes": so has its normal form
-pub normal_bounded : (s out : List ℕ) (n : ℕ) (after : List ℕ) → NormalFormReply s out (Length n) after → n ≤ 16384
+pub normal_bounded : (s out : List ℕ) (n : ℕ) (after : List ℕ) → NormalFormReply s out (Ok n) after → n ≤ 16384
 unfolding NormalFormReply asked_normal
 normal_bounded s out n after h = go (read_sheet s) refl h
   where
-    no_length : (m : ℕ) → Length n ≡ Written.Refused m → ⊥
-    no_length m e = let z : ◌≡◌ {A = ℕ} 0 1 = cc in omega arith
-
     short : (sheet : Sheet) (p : ℕ) → read_sheet s ≡ found sheet p → length s ≤ 16384
     short sheet p e = let a = accepted_as s sheet (p, e) in let b = a.allowed.short in let c = a.as_long in omega arith
 
-    fits : (b : Bool) (normal : Sheet) → leb (length (packed normal)) (length s) ≡ b → length s ≤ 16384 →
-        cond b ((Length n ≡ Length (length (packed normal))) × (after ≡ over (packed normal) out)) ((Length n ≡ Written.Refused 16) × (after ≡ out)) → n ≤ 16384
-    fits true normal e l r = let a = leb-true (length (packed normal)) (length s) e in let g = r.0 in let c : n ≡ length (packed normal) = cc in omega arith
-    fits false normal e l r = absurd (no_length 16 r.0)
+    fits : (b : Bool) (normal : Sheet) → leb (length (packed normal)) (length s) ≡ b → length s ≤ 16384 → WritesForm b normal (Ok n) out after → n ≤ 16384
+    fits true normal e l r = let a = leb-true (length (packed normal)) (length s) e in let c = ok_same r.0 in omega arith
+    fits false normal e l r = absurd r.0
 
-    room : (sheet : Sheet) (b : Bool) → length s ≤ 16384 →
-        Replies (asked.need b 14 >> asks sheet) (λ m. (Length n ≡ Written.Refused m) × (after ≡ out))
-        (λ sheet. (normal : Sheet) × NormalSheet sheet normal × cond (leb (length (packed normal)) (length s)) ((Length n ≡ Length (length (packed normal))) × (after ≡ over (packed normal) out)) ((Length n ≡ Written.Refused 16) × (after ≡ out))) → n ≤ 16384
+    Answer : Sheet → Type 0
+    Answer sheet = (normal : Sheet) × NormalSheet sheet normal × WritesForm (leb (length (packed normal)) (length s)) normal (Ok n) out after
+
+    room : (sheet : Sheet) (b : Bool) → length s ≤ 16384 → Replies (asked.need b 14 >> asks sheet) (λ m. Untouched m (Ok n) out after) Answer → n ≤ 16384
     room sheet true l r = fits (leb (length (packed r.0)) (length s)) r.0 refl l r.2
-    room sheet false l r = absurd (no_length 14 r.0)
+    room sheet false l r = absurd r.0
 
-    go : (x : Read Sheet) → read_sheet s ≡ x →
-        Replies (whole x >>= λ sheet. asked.need (leb (length s) (length out)) 14 >> asks sheet) (λ m. (Length n ≡ Written.Refused m) × (after ≡ out))
-        (λ sheet. (normal : Sheet) × NormalSheet sheet normal × cond (leb (length (packed normal)) (length s)) ((Length n ≡ Length (length (packed normal))) × (after ≡ over (packed normal) out)) ((Length n ≡ Written.Refused 16) × (after ≡ out))) → n ≤ 16384
+    go : (x : Read Sheet) → read_sheet s ≡ x → Replies (whole x >>= λ sheet. asked.need (leb (length s) (length out)) 14 >> asks sheet) (λ m. Untouched m (Ok n) out after) Answer → n ≤ 16384
     go (found sheet p) e r = room sheet (leb (length s) (length out)) (short sheet p e) r
-    go (refused m) e r = absurd (no_length m r.0)
+    go (refused m) e r = absurd r.0

@@ -6,17 +6,24 @@ use mathlib.Core.Bool.{Bool, true, false, ◌&&◌}
 use mathlib.Core.List.{List, [], ◌∷◌}
 use lib.ListN.{length}
 use lib.Dec.{ltb, leb}
+use Rattle.std.specs.Prelude.{Result, Ok, Err}
+use Rattle.refusals.specs.declared.Refusal.{Refusal}
 use Rattle.meaning.specs.declared.Listed.{Listed}
-use Rattle.meaning.specs.declared.Listed.TheVariants.{Rows}
 use Rattle.lists.specs.Lists.{keep, All, Keeps}
 use Rattle.meaning.specs.Values.{Contents, with}
 use Rattle.meaning.specs.Sheets.{Sheet, table_at, admits}
 use Rattle.meaning.specs.Reading.{found, Row, read_sheet, read_session, read_rows}
 use Rattle.meaning.specs.Questions.{IsRow, Admitted, IsIsolated}
-use Rattle.meaning.specs.Replies.{Asked, asks, refuses, ◌>>=◌, ◌>>◌, need, whole, formed, asked_table, asked_rows, Replies, row_bytes, over, ListingReply}
+use Rattle.meaning.specs.Replies.{Asked, asks, refuses, ◌>>=◌, ◌>>◌, need, whole, formed, asked_table, asked_rows, Replies, Untouched, WritesRows, row_bytes, over, rows_listed, ListingReply}
 use Rattle.meaning.specs.Demands.{Accepted, OthersSee}
 use Rattle.lists.proofs.ListLaws.{keep_keeps, keep_struck}
 use Rattle.meaning.proofs.ReadLaws.{read_rows_hold, read_session_holds}
+
+pub ok_same : {A : Type 0} {a b : A} → ◌≡◌ {A = Result A Refusal} (Ok a) (Ok b) → a ≡ b
+ok_same e = cc
+
+pub err_no_ok : {A : Type 0} {e : Refusal} {a : A} → ◌≡◌ {A = Result A Refusal} (Err e) (Ok a) → ⊥
+err_no_ok e = cc
 
 pub asks_same : {A : Type 0} {a b : A} → asks a ≡ asks b → a ≡ b
 asks_same e = cc
@@ -52,25 +59,15 @@ module _ (s : List ℕ) (sheet : Sheet) (t command : ℕ) (session list out : Li
       asks_same (asked_known (formed (read_rows sheet (table_at sheet t) list)) _ rows ks (ap formed are-rows) f)
 
   -- an answered listing: its length, count and output
-  pub listing_says : (n k : ℕ) (after : List ℕ) → ListingReply s t command session list out (Rows n k) after → (n ≡ length (row_bytes kept)) × (k ≡ length kept) × (after ≡ over (row_bytes kept) out)
+  pub listing_says : (reply : Listed) (after : List ℕ) → ListingReply s t command session list out (Ok reply) after → (reply ≡ rows_listed kept) × (after ≡ over (row_bytes kept) out)
   unfolding ListingReply
-  listing_says n k after h = go (asked_rows s t command session list out) asked_rows_lem h
+  listing_says reply after h = go (asked_rows s t command session list out) asked_rows_lem h
     where
       go : (x : Asked (List Row)) → ((ks : List Row) → x ≡ asks ks → kept ≡ ks) →
-          Replies x (λ c. (Rows n k ≡ Listed.Refused c) × (after ≡ out)) (λ rs. (Rows n k ≡ Rows (length (row_bytes rs)) (length rs)) × (after ≡ over (row_bytes rs) out)) →
-          (n ≡ length (row_bytes kept)) × (k ≡ length kept) × (after ≡ over (row_bytes kept) out)
-      go (asks rs) is r =
-          subst (λ x. (n ≡ length (row_bytes x)) × (k ≡ length x) × (after ≡ over (row_bytes x) out)) (sym (is rs refl)) (first r.0, second r.0, r.1)
-        where
-          first : {a b c d : ℕ} → Rows a b ≡ Rows c d → a ≡ c
-          first e = cc
-
-          second : {a b c d : ℕ} → Rows a b ≡ Rows c d → b ≡ d
-          second e = cc
-      go (refuses c) is r = absurd (never r.0)
-        where
-          never : Rows n k ≡ Listed.Refused c → ⊥
-          never e = let z : ◌≡◌ {A = ℕ} 0 1 = cc in omega arith
+          Replies x (λ c. Untouched c (Ok reply) out after) (λ rs. WritesRows rs (Ok reply) out after) →
+          (reply ≡ rows_listed kept) × (after ≡ over (row_bytes kept) out)
+      go (asks rs) is r = subst (λ x. (reply ≡ rows_listed x) × (after ≡ over (row_bytes x) out)) (sym (is rs refl)) (ok_same r.0, r.1)
+      go (refuses c) is r = absurd r.0
 
   all_rows : All (λ r. IsRow sheet t r.columns) rows
   all_rows = read_rows_hold sheet (table_at sheet t) list rows m are-rows
@@ -81,11 +78,11 @@ module _ (s : List ℕ) (sheet : Sheet) (t command : ℕ) (session list out : Li
   kept_admitted (r ∷ rs) h = ((λ e. record { is_row = h.0; is_session = read_session_holds sheet session key q is-session; admitted = e }, λ a. a.admitted), kept_admitted rs h.1)
 
   -- Demand 2: "Listing hands out the admitted rows, in order, and no others."
-  pub listing_exact : (after : List ℕ) (n k : ℕ) → ListingReply s t command session list out (Rows n k) after →
-      (ks : List Row) × Keeps (λ r. Admitted sheet t command r.columns key) rows ks × (n ≡ length (row_bytes ks)) × (k ≡ length ks) × (after ≡ over (row_bytes ks) out)
-  listing_exact after n k h =
-      let l = listing_says n k after h in
-      (kept, keep_keeps (λ r. admits sheet t command (with r.columns key)) (λ r. Admitted sheet t command r.columns key) rows (kept_admitted rows all_rows), l.0, l.1, l.2)
+  pub listing_exact : (after : List ℕ) (reply : Listed) → ListingReply s t command session list out (Ok reply) after →
+      (ks : List Row) × Keeps (λ r. Admitted sheet t command r.columns key) rows ks × (reply.length ≡ length (row_bytes ks)) × (reply.count ≡ length ks) × (after ≡ over (row_bytes ks) out)
+  listing_exact after reply h =
+      let l = listing_says reply after h in
+      (kept, keep_keeps (λ r. admits sheet t command (with r.columns key)) (λ r. Admitted sheet t command r.columns key) rows (kept_admitted rows all_rows), ap (λ z. z.length) l.0, ap (λ z. z.count) l.0, l.1)
 
   -- Of an isolated table the session sees no row that another tenant's could see.
   unseen : IsIsolated sheet t command → (rs : List Row) → All (λ r. IsRow sheet t r.columns) rs → All (λ r. admits sheet t command (with r.columns key) ≡ true → OthersSee sheet t command key r → ⊥) rs
@@ -102,12 +99,13 @@ pub listing_blind : (s : List ℕ) (sheet : Sheet) (t command : ℕ) (session : 
     (one two out : List ℕ) (rows rows' struck : List Row) (q q' : ℕ) →
     read_rows sheet (table_at sheet t) one ≡ found rows q → read_rows sheet (table_at sheet t) two ≡ found rows' q' →
     Keeps (λ r. OthersSee sheet t command key r → ⊥) rows struck → Keeps (λ r. OthersSee sheet t command key r → ⊥) rows' struck →
-    (n k n' k' : ℕ) (after after' : List ℕ) →
-    ListingReply s t command session one out (Rows n k) after → ListingReply s t command session two out (Rows n' k') after' →
-    (n ≡ n') × (k ≡ k') × (after ≡ after')
-listing_blind s sheet t command session key p a isolated e one two out rows rows' struck q q' f g h i n k n' k' after after' l l' =
-    let x = listing_says s sheet t command session one out key rows p q a e f n k after l in
-    let y = listing_says s sheet t command session two out key rows' p q' a e g n' k' after' l' in
+    (reply reply' : Listed) (after after' : List ℕ) →
+    ListingReply s t command session one out (Ok reply) after → ListingReply s t command session two out (Ok reply') after' →
+    (reply.length ≡ reply'.length) × (reply.count ≡ reply'.count) × (after ≡ after')
+listing_blind s sheet t command session key p a isolated e one two out rows rows' struck q q' f g h i reply reply' after after' l l' =
+    let x = listing_says s sheet t command session one out key rows p q a e f reply after l in
+    let y = listing_says s sheet t command session two out key rows' p q' a e g reply' after' l' in
     let same : keep (λ r. admits sheet t command (with r.columns key)) rows ≡ keep (λ r. admits sheet t command (with r.columns key)) rows' =
     kept_struck s sheet t command session one out key rows p q a e f isolated struck h ∙ sym (kept_struck s sheet t command session two out key rows' p q' a e g isolated struck i) in
-    (x.0 ∙ ap (λ z. length (row_bytes z)) same ∙ sym y.0, x.1 ∙ ap length same ∙ sym y.1, x.2 ∙ ap (λ z. over (row_bytes z) out) same ∙ sym y.2)
+    let replies : reply ≡ reply' = x.0 ∙ ap rows_listed same ∙ sym y.0 in
+    (ap (λ z. z.length) replies, ap (λ z. z.count) replies, x.1 ∙ ap (λ z. over (row_bytes z) out) same ∙ sym y.1)

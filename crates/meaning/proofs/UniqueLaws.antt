@@ -1,24 +1,18 @@
 -- No two replies can satisfy a call's promise. (01, "Proofs to be read aloud")
 use Prim.Native.Nat.{ℕ, ◌<◌}
 use native.Mathlib.Omega.{arith}
-use mathlib.Core.Path.{◌≡◌, refl, sym, subst, ◌∙◌}
-use mathlib.Core.Bool.{Bool, true, false, cond}
+use mathlib.Core.Path.{◌≡◌, refl, sym, ap, subst, ◌∙◌}
+use mathlib.Core.Bool.{Bool, true, false}
 use mathlib.Core.List.{List, []}
 use lib.ListN.{length}
 use lib.Dec.{ltb, leb}
 use borrow.Author.Tests.{ltb-true, ltb-false}
+use Rattle.std.specs.Prelude.{Result, Ok, Err, IsOkAnd}
+use Rattle.refusals.specs.declared.Refusal.{Refusal}
 use Rattle.meaning.specs.declared.Listed.{Listed}
-use Rattle.meaning.specs.declared.Listed.TheVariants.{Rows}
-use Rattle.meaning.specs.declared.Written.{Written}
-use Rattle.meaning.specs.declared.Written.TheVariants.{Length}
-use Rattle.meaning.specs.declared.Life.{Life}
 use Rattle.meaning.specs.declared.Life.TheVariants.{Live, Dead}
-use Rattle.meaning.specs.declared.Isolation.{Isolation}
 use Rattle.meaning.specs.declared.Isolation.TheVariants.{Isolated, Leaks}
-use Rattle.meaning.specs.declared.Cover.{Cover}
 use Rattle.meaning.specs.declared.Cover.TheVariants.{Covers, Misses}
-use Rattle.meaning.specs.declared.BranchCount.{BranchCount}
-use Rattle.meaning.specs.declared.BranchCount.TheVariants.{Branches}
 use Rattle.lists.specs.Lists.{Each, Prunes, One, sort}
 use Rattle.meaning.specs.Atoms.{Clause}
 use Rattle.meaning.specs.Sheets.{Policy, Sheet, kind_of, branch_count}
@@ -26,10 +20,11 @@ use Rattle.meaning.specs.Packed.{packed}
 use Rattle.meaning.specs.Reading.{Row}
 use Rattle.meaning.specs.Questions.{FirstLeak, Leak, ClauseCovers}
 use Rattle.meaning.specs.Steps.{NormalClause, NormalClauses, NormalPolicy, NormalSheet, clause_before}
-use Rattle.meaning.specs.Replies.{Asked, asks, refuses, Replies, row_bytes, over, asked_normal, asked_rows, asked_table, asked_verdict, asked_covers, ListingReply, NormalFormReply, LifeOf, DeadReply, IsolationOf, IsolatedReply, CoverOf, CoversReply, BranchesReply}
+use Rattle.meaning.specs.Replies.{Asked, asks, refuses, Replies, Refused, Untouched, WritesRows, WritesForm, row_bytes, over, rows_listed, asked_normal, asked_rows, asked_table, asked_verdict, asked_covers, ListingReply, NormalFormReply, LifeOf, DeadReply, IsolationOf, IsolatedReply, CoverOf, CoversReply, BranchesReply}
 use Rattle.meaning.specs.Demands.{Unique}
 use Rattle.lists.proofs.ListLaws.{keeps_one, prunes_one, each_one}
 use Rattle.meaning.proofs.LeakLaws.{leak_not_isolated}
+use Rattle.meaning.proofs.NumberedLaws.{same_number}
 
 -- a call has one reply where each refusal and each answer has one
 replies_one : {A R : Type 0} (F : ℕ → R → Type 0) (P : A → R → Type 0) → ((n : ℕ) → Unique (F n)) → ((a : A) → Unique (P a)) → (x : Asked A) → Unique (λ r. Replies x (λ n. F n r) (λ a. P a r))
@@ -42,13 +37,27 @@ is_one a r r' p q = p ∙ sym q
 pair_one : {A B : Type 0} (a : A) (b : B) → Unique {R = A × B} (λ r. (r.0 ≡ a) × (r.1 ≡ b))
 pair_one a b r r' p q = λ i. ((p.0 ∙ sym q.0) i, (p.1 ∙ sym q.1) i)
 
-pub listing_one : (s : List ℕ) (t command : ℕ) (session list out : List ℕ) → Unique {R = Listed × List ℕ} (λ r. ListingReply s t command session list out r.0 r.1)
+-- a number has one refusal
+refused_one : {A : Type 0} (n : ℕ) → Unique {R = Result A Refusal} (Refused n)
+refused_one n (Ok a) r p q = absurd p
+refused_one n (Err e) (Ok a) p q = absurd q
+refused_one n (Err e) (Err f) p q = ap Err (same_number e f (p ∙ sym q))
+
+-- so has a refusal that leaves the output as found
+untouched_one : {A : Type 0} (n : ℕ) (out : List ℕ) → Unique {R = Result A Refusal × List ℕ} (λ r. Untouched n r.0 out r.1)
+untouched_one n out r r' p q = λ i. (refused_one n r.0 r'.0 p.0 q.0 i, (p.1 ∙ sym q.1) i)
+
+-- a verdict has one reply where it has one answer
+verdict_one : {A : Type 0} (P : A → Type 0) → Unique P → Unique {R = Result A Refusal} (λ r. IsOkAnd r P)
+verdict_one P u (Ok a) (Ok b) p q = ap Ok (u a b p q)
+verdict_one P u (Ok a) (Err e) p q = absurd q
+verdict_one P u (Err e) r p q = absurd p
+
+pub listing_one : (s : List ℕ) (t command : ℕ) (session list out : List ℕ) → Unique {R = Result Listed Refusal × List ℕ} (λ r. ListingReply s t command session list out r.0 r.1)
 unfolding ListingReply
 listing_one s t command session list out =
-    replies_one {R = Listed × List ℕ} (λ n r. (r.0 ≡ Listed.Refused n) × (r.1 ≡ out))
-    (λ (rows : List Row) r. (r.0 ≡ Rows (length (row_bytes rows)) (length rows)) × (r.1 ≡ over (row_bytes rows) out))
-    (λ n. pair_one (Listed.Refused n) out) (λ rows. pair_one (Rows (length (row_bytes rows)) (length rows)) (over (row_bytes rows) out))
-    (asked_rows s t command session list out)
+    replies_one {R = Result Listed Refusal × List ℕ} (λ n r. Untouched n r.0 out r.1) (λ (rows : List Row) r. WritesRows rows r.0 out r.1)
+    (λ n. untouched_one n out) (λ rows. pair_one (Ok (rows_listed rows)) (over (row_bytes rows) out)) (asked_rows s t command session list out)
 
 -- the six steps have one result
 clauses_one : (sheet : Sheet) {cs ds es : List Clause} → NormalClauses sheet cs ds → NormalClauses sheet cs es → ds ≡ es
@@ -76,37 +85,29 @@ normal_one sheet normal other n m =
       policies = each_one (policy_one sheet) n.policies m.policies i;
     }
 
-pub normal_form_one : (s out : List ℕ) → Unique {R = Written × List ℕ} (λ r. NormalFormReply s out r.0 r.1)
+pub normal_form_one : (s out : List ℕ) → Unique {R = Result ℕ Refusal × List ℕ} (λ r. NormalFormReply s out r.0 r.1)
 unfolding NormalFormReply
 normal_form_one s out =
-    replies_one {R = Written × List ℕ} (λ n r. (r.0 ≡ Written.Refused n) × (r.1 ≡ out))
-    (λ (sheet : Sheet) r. (normal : Sheet) × NormalSheet sheet normal × Form normal r)
-    (λ n. pair_one (Written.Refused n) out)
+    replies_one {R = Result ℕ Refusal × List ℕ} (λ n r. Untouched n r.0 out r.1) (λ (sheet : Sheet) r. (normal : Sheet) × NormalSheet sheet normal × Form normal r) (λ n. untouched_one n out)
     (λ sheet r r' p q. form_one p.0 (leb (length (packed p.0)) (length s)) r r' p.2 (subst (λ x. Form x r') (normal_one sheet q.0 p.0 q.1 p.1) q.2))
     (asked_normal s out)
   where
-    FormBy : Bool → Sheet → Written × List ℕ → Type 0
-    FormBy b normal r = cond b ((r.0 ≡ Length (length (packed normal))) × (r.1 ≡ over (packed normal) out)) ((r.0 ≡ Written.Refused 16) × (r.1 ≡ out))
+    Form : Sheet → Result ℕ Refusal × List ℕ → Type 0
+    Form normal r = WritesForm (leb (length (packed normal)) (length s)) normal r.0 out r.1
 
-    Form : Sheet → Written × List ℕ → Type 0
-    Form normal r = FormBy (leb (length (packed normal)) (length s)) normal r
-
-    form_one : (normal : Sheet) (b : Bool) → Unique {R = Written × List ℕ} (FormBy b normal)
-    form_one normal true = pair_one (Length (length (packed normal))) (over (packed normal) out)
-    form_one normal false = pair_one (Written.Refused 16) out
+    form_one : (normal : Sheet) (b : Bool) → Unique {R = Result ℕ Refusal × List ℕ} (λ r. WritesForm b normal r.0 out r.1)
+    form_one normal true = pair_one (Ok (length (packed normal))) (over (packed normal) out)
+    form_one normal false = untouched_one 16 out
 
 pub dead_one : (s : List ℕ) (t command : ℕ) → Unique (DeadReply s t command)
 unfolding DeadReply
-dead_one s t command = replies_one (λ n r. r ≡ Life.Refused n) (λ sheet r. LifeOf sheet t command r) (λ n. is_one (Life.Refused n)) one (asked_verdict s t command)
+dead_one s t command = replies_one Refused (λ sheet r. IsOkAnd r (LifeOf sheet t command)) refused_one (λ sheet. verdict_one (LifeOf sheet t command) (one sheet)) (asked_verdict s t command)
   where
     one : (sheet : Sheet) → Unique (LifeOf sheet t command)
     one sheet Live Live p q = refl
     one sheet Live Dead p q = absurd (q p.0 p.1 p.2)
     one sheet Dead Live p q = absurd (p q.0 q.1 q.2)
     one sheet Dead Dead p q = refl
-    one sheet Live (Life.Refused n) p q = absurd q
-    one sheet Dead (Life.Refused n) p q = absurd q
-    one sheet (Life.Refused n) r p q = absurd p
 
 -- of two numbers neither of which is below the other
 same : (a b : ℕ) → (a < b → ⊥) → (b < a → ⊥) → a ≡ b
@@ -119,7 +120,7 @@ same a b p q = go (ltb a b) refl (ltb b a) refl
 
 pub isolated_one : (s : List ℕ) (t command : ℕ) → Unique (IsolatedReply s t command)
 unfolding IsolatedReply
-isolated_one s t command = replies_one (λ n r. r ≡ Isolation.Refused n) (λ sheet r. IsolationOf sheet t command r) (λ n. is_one (Isolation.Refused n)) one (asked_verdict s t command)
+isolated_one s t command = replies_one Refused (λ sheet r. IsOkAnd r (IsolationOf sheet t command)) refused_one (λ sheet. verdict_one (IsolationOf sheet t command) (one sheet)) (asked_verdict s t command)
   where
     first : (sheet : Sheet) (a b c d : ℕ) → FirstLeak sheet t command a b → FirstLeak sheet t command c d → Leaks a b ≡ Leaks c d
     first sheet a b c d p q =
@@ -132,25 +133,18 @@ isolated_one s t command = replies_one (λ n r. r ≡ Isolation.Refused n) (λ s
     one sheet Isolated (Leaks a b) p q = absurd (leak_not_isolated sheet t command a b q.leak p)
     one sheet (Leaks a b) Isolated p q = absurd (leak_not_isolated sheet t command a b p.leak q)
     one sheet (Leaks a b) (Leaks c d) p q = first sheet a b c d p q
-    one sheet Isolated (Isolation.Refused n) p q = absurd q
-    one sheet (Leaks a b) (Isolation.Refused n) p q = absurd q
-    one sheet (Isolation.Refused n) r p q = absurd p
 
 pub covers_one : (s : List ℕ) (a b : ℕ) → Unique (CoversReply s a b)
 unfolding CoversReply
-covers_one s a b = replies_one (λ n r. r ≡ Cover.Refused n) (λ sheet r. CoverOf sheet a b r) (λ n. is_one (Cover.Refused n)) one (asked_covers s a b)
+covers_one s a b = replies_one Refused (λ sheet r. IsOkAnd r (CoverOf sheet a b)) refused_one (λ sheet. verdict_one (CoverOf sheet a b) (one sheet)) (asked_covers s a b)
   where
     one : (sheet : Sheet) → Unique (CoverOf sheet a b)
     one sheet Covers Covers p q = refl
     one sheet Covers Misses p q = absurd (q p)
     one sheet Misses Covers p q = absurd (p q)
     one sheet Misses Misses p q = refl
-    one sheet Covers (Cover.Refused n) p q = absurd q
-    one sheet Misses (Cover.Refused n) p q = absurd q
-    one sheet (Cover.Refused n) r p q = absurd p
 
 pub branches_one : (s : List ℕ) (t command : ℕ) → Unique (BranchesReply s t command)
 unfolding BranchesReply
 branches_one s t command =
-    replies_one (λ n r. r ≡ BranchCount.Refused n) (λ (sheet : Sheet) r. r ≡ Branches (branch_count sheet t command))
-    (λ n. is_one (BranchCount.Refused n)) (λ sheet. is_one (Branches (branch_count sheet t command))) (asked_table s t command)
+    replies_one Refused (λ (sheet : Sheet) r. r ≡ Ok (branch_count sheet t command)) refused_one (λ sheet. is_one (Ok (branch_count sheet t command))) (asked_table s t command)

@@ -1,9 +1,8 @@
 -- The customer's three demands, as statements. Each is to have one theorem.
-use Rattle.std.specs.Prelude.{ℕ, ◌<◌, ◌≤◌, ◌≡◌, ◌↔◌, List, length, take}
+use Rattle.std.specs.Prelude.{ℕ, ◌<◌, ◌≤◌, ◌≡◌, ◌↔◌, List, length, take, Result, Ok, Err}
+use Rattle.refusals.specs.declared.Refusal.{Refusal}
+use Rattle.refusals.specs.declared.Refusal.TheVariants.{LongerForm}
 use Rattle.meaning.specs.declared.Listed.{Listed}
-use Rattle.meaning.specs.declared.Listed.TheVariants.{Rows}
-use Rattle.meaning.specs.declared.Written.{Written}
-use Rattle.meaning.specs.declared.Written.TheVariants.{Length}
 use Rattle.lists.specs.Lists.{any, All, Keeps}
 use Rattle.meaning.specs.Values.{Contents, with, OtherTenant}
 use Rattle.meaning.specs.Atoms.{clause_met}
@@ -25,14 +24,14 @@ Determined P = (r : _) × P r × Unique P
 
 -- Demand 1: "Every sheet, session, row list and question gets a reply .. Bad input is refused by a numbered reason, in a fixed order, with the lent output untouched."
 pub record Demand1 : Type 0 where
-  pub listing : (s : List ℕ) (t command : ℕ) (session list out : List ℕ) → Determined {R = Listed × List ℕ} (λ r. ListingReply s t command session list out r.0 r.1)
-  pub normal_form : (s out : List ℕ) → Determined {R = Written × List ℕ} (λ r. NormalFormReply s out r.0 r.1)
+  pub listing : (s : List ℕ) (t command : ℕ) (session list out : List ℕ) → Determined {R = Result Listed Refusal × List ℕ} (λ r. ListingReply s t command session list out r.0 r.1)
+  pub normal_form : (s out : List ℕ) → Determined {R = Result ℕ Refusal × List ℕ} (λ r. NormalFormReply s out r.0 r.1)
   pub dead : (s : List ℕ) (t command : ℕ) → Determined (DeadReply s t command)
   pub isolated : (s : List ℕ) (t command : ℕ) → Determined (IsolatedReply s t command)
   pub covers : (s : List ℕ) (a b : ℕ) → Determined (CoversReply s a b)
   pub count : (s : List ℕ) (t command : ℕ) → Determined (BranchesReply s t command)
-  pub listing_untouched : (s : List ℕ) (t command : ℕ) (session list out after : List ℕ) (n : ℕ) → ListingReply s t command session list out (Listed.Refused n) after → after ≡ out
-  pub normal_form_untouched : (s out after : List ℕ) (n : ℕ) → NormalFormReply s out (Written.Refused n) after → after ≡ out
+  pub listing_untouched : (s : List ℕ) (t command : ℕ) (session list out after : List ℕ) (e : Refusal) → ListingReply s t command session list out (Err e) after → after ≡ out
+  pub normal_form_untouched : (s out after : List ℕ) (e : Refusal) → NormalFormReply s out (Err e) after → after ≡ out
 
 -- the bytes are accepted as this sheet
 abbrev pub Accepted : List ℕ → Sheet → Type 0
@@ -44,13 +43,13 @@ pub record Demand2 : Type 0 where
       (t command : ℕ) (row session : Contents) → IsRow sheet t row → IsSession sheet session → admits normal t command (with row session) ≡ admits sheet t command (with row session)
   pub normal_accepted : (s : List ℕ) (sheet normal : Sheet) → Accepted s sheet → NormalSheet sheet normal → Accepted (packed normal) normal
   -- "Normalising twice gives the same bytes as once."
-  pub twice_is_once : (s out after out' after' : List ℕ) (n m : ℕ) → NormalFormReply s out (Length n) after → NormalFormReply (take n after) out' (Length m) after' → take m after' ≡ take n after
+  pub twice_is_once : (s out after out' after' : List ℕ) (n m : ℕ) → NormalFormReply s out (Ok n) after → NormalFormReply (take n after) out' (Ok m) after' → take m after' ≡ take n after
   pub never_longer : (s : List ℕ) (sheet normal : Sheet) → Accepted s sheet → NormalSheet sheet normal → length (packed normal) ≤ length s
-  pub never_16 : (s out after : List ℕ) → NormalFormReply s out (Written.Refused 16) after → ⊥
-  pub listing_exact : (s : List ℕ) (sheet : Sheet) (t command : ℕ) (session list out after : List ℕ) (key : Contents) (rows : List Row) (p q n k : ℕ) →
+  pub never_16 : (s out after : List ℕ) → NormalFormReply s out (Err LongerForm) after → ⊥
+  pub listing_exact : (s : List ℕ) (sheet : Sheet) (t command : ℕ) (session list out after : List ℕ) (key : Contents) (rows : List Row) (p q : ℕ) (reply : Listed) →
       Accepted s sheet → read_session sheet session ≡ found key p → read_rows sheet (table_at sheet t) list ≡ found rows q →
-      ListingReply s t command session list out (Rows n k) after →
-      (kept : List Row) × Keeps (λ r. Admitted sheet t command r.columns key) rows kept × (n ≡ length (row_bytes kept)) × (k ≡ length kept) × (after ≡ over (row_bytes kept) out)
+      ListingReply s t command session list out (Ok reply) after →
+      (kept : List Row) × Keeps (λ r. Admitted sheet t command r.columns key) rows kept × (reply.length ≡ length (row_bytes kept)) × (reply.count ≡ length kept) × (after ≡ over (row_bytes kept) out)
 
 -- numbers that are bytes
 abbrev pub AreBytes : List ℕ → Type 0
@@ -80,9 +79,9 @@ pub record Demand3 : Type 0 where
       (one two out : List ℕ) (rows rows' struck : List Row) (q q' : ℕ) →
       read_rows sheet (table_at sheet t) one ≡ found rows q → read_rows sheet (table_at sheet t) two ≡ found rows' q' →
       Keeps (λ r. OthersSee sheet t command key r → ⊥) rows struck → Keeps (λ r. OthersSee sheet t command key r → ⊥) rows' struck →
-      (n k n' k' : ℕ) (after after' : List ℕ) →
-      ListingReply s t command session one out (Rows n k) after → ListingReply s t command session two out (Rows n' k') after' →
-      (n ≡ n') × (k ≡ k') × (after ≡ after')
+      (reply reply' : Listed) (after after' : List ℕ) →
+      ListingReply s t command session one out (Ok reply) after → ListingReply s t command session two out (Ok reply') after' →
+      (reply.length ≡ reply'.length) × (reply.count ≡ reply'.count) × (after ≡ after')
 
 -- "N is the sum .. times the product ..", and a row is admitted when a branch is met: the branches are the effective predicate
 pub record Branching : Type 0 where

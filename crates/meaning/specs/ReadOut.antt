@@ -21,12 +21,10 @@ decimal n = decimal_in 20 n
 abbrev pub life_text : Life → List ℕ
 life_text Live = ascii "live"
 life_text Dead = ascii "dead"
-life_text (Life.Refused n) = []
 
 abbrev pub isolation_text : Isolation → List ℕ
 isolation_text Isolated = ascii "isolated"
 isolation_text (Leaks a b) = ascii "leaks " ++ (decimal a ++ (ascii " " ++ decimal b))
-isolation_text (Isolation.Refused n) = []
 
 -- "N, live or dead, isolated or `leaks a b`"
 unfoldable pub Verdicts : Sheet → ℕ → ℕ → List ℕ → Type 0

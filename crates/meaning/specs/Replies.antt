@@ -1,17 +1,14 @@
 -- What each public call replies, and what its output holds then, for every input. (01, "Refusal numbers")
-use Rattle.std.specs.Prelude.{ℕ, ◌≡◌, Bool, cond, ◌&&◌, List, [], ◌∷◌, ◌++◌, length, drop, ltb, leb}
+use Rattle.std.specs.Prelude.{ℕ, ◌≡◌, Bool, cond, ◌&&◌, List, [], ◌∷◌, ◌++◌, length, drop, ltb, leb, Result, Ok, Err, IsOkAnd, IsErrAnd}
+use Rattle.refusals.specs.declared.Refusal.{Refusal}
+use Rattle.refusals.specs.Refusals.{number}
 use Rattle.meaning.specs.declared.Listed.{Listed}
-use Rattle.meaning.specs.declared.Listed.TheVariants.{Rows}
-use Rattle.meaning.specs.declared.Written.{Written}
-use Rattle.meaning.specs.declared.Written.TheVariants.{Length}
 use Rattle.meaning.specs.declared.Life.{Life}
 use Rattle.meaning.specs.declared.Life.TheVariants.{Live, Dead}
 use Rattle.meaning.specs.declared.Isolation.{Isolation}
 use Rattle.meaning.specs.declared.Isolation.TheVariants.{Isolated, Leaks}
 use Rattle.meaning.specs.declared.Cover.{Cover}
 use Rattle.meaning.specs.declared.Cover.TheVariants.{Covers, Misses}
-use Rattle.meaning.specs.declared.BranchCount.{BranchCount}
-use Rattle.meaning.specs.declared.BranchCount.TheVariants.{Branches}
 use Rattle.lists.specs.Lists.{keep, each}
 use Rattle.meaning.specs.Values.{with}
 use Rattle.meaning.specs.Sheets.{Sheet, table_at, policy_at, admits, branch_count}
@@ -89,6 +86,10 @@ abbrev pub Replies : {A : Type 0} → Asked A → (ℕ → Type 0) → (A → Ty
 Replies (asks a) refusal answer = answer a
 Replies (refuses n) refusal answer = refusal n
 
+-- the reply is the refusal n
+abbrev pub Refused : {A : Type 0} → ℕ → Result A Refusal → Type 0
+Refused n reply = IsErrAnd reply (λ e. number e ≡ n)
+
 -- "A listing writes the admitted rows' bytes one after another, in the list's order."
 abbrev pub row_bytes : List Row → List ℕ
 row_bytes rows = each (λ r. r.bytes) rows
@@ -97,75 +98,79 @@ row_bytes rows = each (λ r. r.bytes) rows
 abbrev pub over : List ℕ → List ℕ → List ℕ
 over bytes out = bytes ++ drop (length bytes) out
 
--- "a listing also its row count". "A refusal .. changes no output byte."
-unfoldable pub ListingReply : (sheet : List ℕ) (table command : ℕ) (session rows out : List ℕ) → Listed → List ℕ → Type 0
-ListingReply s t command session list out reply after =
-    Replies (asked_rows s t command session list out)
-    (λ n. (reply ≡ Listed.Refused n) × (after ≡ out))
-    (λ rows. (reply ≡ Rows (length (row_bytes rows)) (length rows)) × (after ≡ over (row_bytes rows) out))
+-- "a listing also its row count"
+abbrev pub rows_listed : List Row → Listed
+rows_listed rows = record { length = length (row_bytes rows); count = length rows }
 
--- 16, "the normal form is longer than its sheet"
-unfoldable pub NormalFormReply : (sheet out : List ℕ) → Written → List ℕ → Type 0
+-- a listing's answer: the rows' bytes are written
+abbrev pub WritesRows : List Row → Result Listed Refusal → (out after : List ℕ) → Type 0
+WritesRows rows reply out after = (reply ≡ Ok (rows_listed rows)) × (after ≡ over (row_bytes rows) out)
+
+-- "A refusal .. changes no output byte."
+abbrev pub Untouched : {A : Type 0} → ℕ → Result A Refusal → (out after : List ℕ) → Type 0
+Untouched n reply out after = Refused n reply × (after ≡ out)
+
+unfoldable pub ListingReply : (sheet : List ℕ) (table command : ℕ) (session rows out : List ℕ) → Result Listed Refusal → List ℕ → Type 0
+ListingReply s t command session list out reply after =
+    Replies (asked_rows s t command session list out) (λ n. Untouched n reply out after) (λ rows. WritesRows rows reply out after)
+
+-- a normal form is written where it is no longer than its sheet; 16, "the normal form is longer than its sheet"
+abbrev pub WritesForm : (fits : Bool) → Sheet → Result ℕ Refusal → (out after : List ℕ) → Type 0
+WritesForm fits normal reply out after = cond fits ((reply ≡ Ok (length (packed normal))) × (after ≡ over (packed normal) out)) (Untouched 16 reply out after)
+
+unfoldable pub NormalFormReply : (sheet out : List ℕ) → Result ℕ Refusal → List ℕ → Type 0
 NormalFormReply s out reply after =
-    Replies (asked_normal s out)
-    (λ n. (reply ≡ Written.Refused n) × (after ≡ out))
-    (λ sheet. (normal : Sheet) × NormalSheet sheet normal
-    × cond (leb (length (packed normal)) (length s))
-    ((reply ≡ Length (length (packed normal))) × (after ≡ over (packed normal) out))
-    ((reply ≡ Written.Refused 16) × (after ≡ out)))
+    Replies (asked_normal s out) (λ n. Untouched n reply out after)
+    (λ sheet. (normal : Sheet) × NormalSheet sheet normal × WritesForm (leb (length (packed normal)) (length s)) normal reply out after)
 
 abbrev pub LifeOf : Sheet → ℕ → ℕ → Life → Type 0
 LifeOf sheet t command Live = IsLive sheet t command
 LifeOf sheet t command Dead = IsDead sheet t command
-LifeOf sheet t command (Life.Refused n) = ⊥
 
-unfoldable pub DeadReply : (sheet : List ℕ) (table command : ℕ) → Life → Type 0
-DeadReply s t command reply = Replies (asked_verdict s t command) (λ n. reply ≡ Life.Refused n) (λ sheet. LifeOf sheet t command reply)
+unfoldable pub DeadReply : (sheet : List ℕ) (table command : ℕ) → Result Life Refusal → Type 0
+DeadReply s t command reply = Replies (asked_verdict s t command) (λ n. Refused n reply) (λ sheet. IsOkAnd reply (LifeOf sheet t command))
 
 abbrev pub IsolationOf : Sheet → ℕ → ℕ → Isolation → Type 0
 IsolationOf sheet t command Isolated = IsIsolated sheet t command
 IsolationOf sheet t command (Leaks a b) = FirstLeak sheet t command a b
-IsolationOf sheet t command (Isolation.Refused n) = ⊥
 
-unfoldable pub IsolatedReply : (sheet : List ℕ) (table command : ℕ) → Isolation → Type 0
-IsolatedReply s t command reply = Replies (asked_verdict s t command) (λ n. reply ≡ Isolation.Refused n) (λ sheet. IsolationOf sheet t command reply)
+unfoldable pub IsolatedReply : (sheet : List ℕ) (table command : ℕ) → Result Isolation Refusal → Type 0
+IsolatedReply s t command reply = Replies (asked_verdict s t command) (λ n. Refused n reply) (λ sheet. IsOkAnd reply (IsolationOf sheet t command))
 
 abbrev pub CoverOf : Sheet → ℕ → ℕ → Cover → Type 0
 CoverOf sheet a b Covers = PolicyCovers sheet (policy_at sheet a).clauses (policy_at sheet b).clauses
 CoverOf sheet a b Misses = PolicyCovers sheet (policy_at sheet a).clauses (policy_at sheet b).clauses → ⊥
-CoverOf sheet a b (Cover.Refused n) = ⊥
 
-unfoldable pub CoversReply : (sheet : List ℕ) (a b : ℕ) → Cover → Type 0
-CoversReply s a b reply = Replies (asked_covers s a b) (λ n. reply ≡ Cover.Refused n) (λ sheet. CoverOf sheet a b reply)
+unfoldable pub CoversReply : (sheet : List ℕ) (a b : ℕ) → Result Cover Refusal → Type 0
+CoversReply s a b reply = Replies (asked_covers s a b) (λ n. Refused n reply) (λ sheet. IsOkAnd reply (CoverOf sheet a b))
 
-unfoldable pub BranchesReply : (sheet : List ℕ) (table command : ℕ) → BranchCount → Type 0
-BranchesReply s t command reply =
-    Replies (asked_table s t command) (λ n. reply ≡ BranchCount.Refused n) (λ sheet. reply ≡ Branches (branch_count sheet t command))
+unfoldable pub BranchesReply : (sheet : List ℕ) (table command : ℕ) → Result ℕ Refusal → Type 0
+BranchesReply s t command reply = Replies (asked_table s t command) (λ n. Refused n reply) (λ sheet. reply ≡ Ok (branch_count sheet t command))
 
 -- "A refusal returns its number and zeros": the numbers that a host sees
-abbrev pub listed_numbers : Listed → List ℕ
-listed_numbers (Rows length count) = 0 ∷ length ∷ count ∷ []
-listed_numbers (Listed.Refused n) = n ∷ 0 ∷ 0 ∷ []
+abbrev pub listed_numbers : Result Listed Refusal → List ℕ
+listed_numbers (Ok r) = 0 ∷ r.length ∷ r.count ∷ []
+listed_numbers (Err e) = number e ∷ 0 ∷ 0 ∷ []
 
-abbrev pub written_numbers : Written → List ℕ
-written_numbers (Length length) = 0 ∷ length ∷ []
-written_numbers (Written.Refused n) = n ∷ 0 ∷ []
+abbrev pub written_numbers : Result ℕ Refusal → List ℕ
+written_numbers (Ok length) = 0 ∷ length ∷ []
+written_numbers (Err e) = number e ∷ 0 ∷ []
 
-abbrev pub life_numbers : Life → List ℕ
-life_numbers Live = 0 ∷ 0 ∷ []
-life_numbers Dead = 0 ∷ 1 ∷ []
-life_numbers (Life.Refused n) = n ∷ 0 ∷ []
+abbrev pub life_numbers : Result Life Refusal → List ℕ
+life_numbers (Ok Live) = 0 ∷ 0 ∷ []
+life_numbers (Ok Dead) = 0 ∷ 1 ∷ []
+life_numbers (Err e) = number e ∷ 0 ∷ []
 
-abbrev pub isolation_numbers : Isolation → List ℕ
-isolation_numbers Isolated = 0 ∷ 0 ∷ 0 ∷ 0 ∷ []
-isolation_numbers (Leaks a b) = 0 ∷ 1 ∷ a ∷ b ∷ []
-isolation_numbers (Isolation.Refused n) = n ∷ 0 ∷ 0 ∷ 0 ∷ []
+abbrev pub isolation_numbers : Result Isolation Refusal → List ℕ
+isolation_numbers (Ok Isolated) = 0 ∷ 0 ∷ 0 ∷ 0 ∷ []
+isolation_numbers (Ok (Leaks a b)) = 0 ∷ 1 ∷ a ∷ b ∷ []
+isolation_numbers (Err e) = number e ∷ 0 ∷ 0 ∷ 0 ∷ []
 
-abbrev pub cover_numbers : Cover → List ℕ
-cover_numbers Covers = 0 ∷ 1 ∷ []
-cover_numbers Misses = 0 ∷ 0 ∷ []
-cover_numbers (Cover.Refused n) = n ∷ 0 ∷ []
+abbrev pub cover_numbers : Result Cover Refusal → List ℕ
+cover_numbers (Ok Covers) = 0 ∷ 1 ∷ []
+cover_numbers (Ok Misses) = 0 ∷ 0 ∷ []
+cover_numbers (Err e) = number e ∷ 0 ∷ []
 
-abbrev pub branch_numbers : BranchCount → List ℕ
-branch_numbers (Branches n) = 0 ∷ n ∷ []
-branch_numbers (BranchCount.Refused n) = n ∷ 0 ∷ []
+abbrev pub branch_numbers : Result ℕ Refusal → List ℕ
+branch_numbers (Ok n) = 0 ∷ n ∷ []
+branch_numbers (Err e) = number e ∷ 0 ∷ []

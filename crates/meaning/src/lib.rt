@@ -10,15 +10,16 @@ ghost use Rattle.meaning.specs.Atoms as atoms;
 ghost use Rattle.meaning.specs.Atoms.{among, is_value, passes, met};
 ghost use Rattle.meaning.specs.Views.{atom_of, value_passes};
 
-// "It holds null or a value of its kind": a value is its order code (specs/Values.antt).
-#[derive(Clone, Copy)]
+// "It holds null or a value of its kind": a value is its order code (specs/Values.antt). It stays an enum: the scope document names null and
+// value as its cases.
+#[derive(Clone, Copy, Debug, PartialEq, Eq)]
 pub enum Content {
     Null,
     Value(u64),
 }
 
 // An atom by value. `other` is an equality's second variable; a list is the first `count` of `values`; a bound is the first of `values`.
-#[derive(Clone, Copy)]
+#[derive(Clone, Copy, Debug, PartialEq, Eq)]
 pub struct Atom {
     pub variable: u64,
     pub operator: u64,
@@ -28,50 +29,39 @@ pub struct Atom {
 }
 
 // A clause by value: the first `count` of `atoms`.
-#[derive(Clone, Copy)]
+#[derive(Clone, Copy, Debug, PartialEq, Eq)]
 pub struct Clause {
     pub count: usize,
     pub atoms: [Atom; 8],
 }
 
-// The replies of the public calls. A refusal carries its number.
-#[derive(Clone, Copy)]
-pub enum Listed {
-    Rows { length: usize, count: usize },
-    Refused(u32),
+// What the public calls answer. Each replies with a Result, whose error is a refusal of 01; a normal form's length is a usize, N a u64.
+
+// A listing's length in bytes, and its count of rows.
+#[derive(Clone, Copy, Debug, PartialEq, Eq)]
+pub struct Listed {
+    pub length: usize,
+    pub count: usize,
 }
 
-#[derive(Clone, Copy)]
-pub enum Written {
-    Length(usize),
-    Refused(u32),
-}
-
-#[derive(Clone, Copy)]
+// The verdicts stay enums of their own: the scope document names their forms.
+#[derive(Clone, Copy, Debug, PartialEq, Eq)]
 pub enum Life {
     Live,
     Dead,
-    Refused(u32),
 }
 
-#[derive(Clone, Copy)]
+#[derive(Clone, Copy, Debug, PartialEq, Eq)]
 pub enum Isolation {
     Isolated,
+    // the first two clause choices that leak
     Leaks(u32, u32),
-    Refused(u32),
 }
 
-#[derive(Clone, Copy)]
+#[derive(Clone, Copy, Debug, PartialEq, Eq)]
 pub enum Cover {
     Covers,
     Misses,
-    Refused(u32),
-}
-
-#[derive(Clone, Copy)]
-pub enum BranchCount {
-    Branches(u64),
-    Refused(u32),
 }
 
 // Is this content the value n?
@@ -88,36 +78,19 @@ pub fn is_value(n: u64, c: Content) -> bool
 pub fn is_among(n: u64, count: u64, values: [u64; 8]) -> bool
     ensures { result ≡ among n (take count values) }
 {
-    let mut k: usize = 0;
-    while k < 8 {
-        if count <= k as u64 {
-            return false;
-        }
-        if n == values[k] {
-            return true;
-        }
-        k += 1;
-    }
-    false
+    values[..count.min(8) as usize].contains(&n)
 }
 
 // Does the value n pass the atom's operator, where the second variable of an equality holds y?
+#[tactic(auto, unfolding(crate::specs::Views::value_passes))]
 fn value_passes(a: Atom, n: u64, y: Content) -> bool
     ensures { result ≡ value_passes a n y }
 {
-    let op = a.operator;
-    let values = a.values;
-    let v = values[0];
-    match op {
+    let v = a.values[0];
+    match a.operator {
         0 => is_value(n, y),
-        1 => is_among(n, a.count, values),
-        2 => {
-            if is_among(n, a.count, values) {
-                false
-            } else {
-                true
-            }
-        }
+        1 => is_among(n, a.count, a.values),
+        2 => !is_among(n, a.count, a.values),
         3 => n <= v,
         4 => v <= n,
         5 => n < v,
@@ -131,9 +104,8 @@ fn value_passes(a: Atom, n: u64, y: Content) -> bool
 pub fn is_met(a: Atom, x: Content, y: Content) -> bool
     ensures { (e : Contents) → e a.variable ≡ x → e a.other ≡ y → result ≡ met e (atom_of a) }
 {
-    let op = a.operator;
     match x {
-        Content::Null => op == 7,
+        Content::Null => a.operator == 7,
         Content::Value(n) => value_passes(a, n, y),
     }
 }

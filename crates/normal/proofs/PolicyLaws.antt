@@ -7,6 +7,7 @@ use native.Mathlib.Omega.{arith}
 use native.Mathlib.Numerals.{add-one}
 use lib.ListN.{length, take}
 use lib.Seq.{take-suc}
+use Rattle.std.specs.Int.{from_bool}
 use Rattle.lists.specs.Lists.{All, each, Each}
 use Rattle.lists.proofs.ListLaws.{each_more, each_append}
 use Rattle.lists.proofs.OrderLaws.{all_map}
@@ -26,6 +27,10 @@ use Rattle.normal.proofs.KnownLaws.{fits_five}
 -- the clauses of a normal form have variables of five bits
 pub clauses_five : (sheet : Sheet) {cs ds : List Clause} → NormalClauses sheet cs ds → All (Fits sheet) cs → All AllInFive ds
 clauses_five sheet {cs} {ds} n h = all_map (Fits sheet) AllInFive ds (fits_five sheet) (clauses_carry sheet (Fits sheet) (Fits sheet) (λ c d l k f. normal_fits sheet c d k f) n h)
+
+pub type_is : (b : Bool) → from_bool b ≡ cond b 1 0
+type_is true = refl
+type_is false = refl
 
 pub type_small : (b : Bool) → cond b 1 0 ≤ 1
 type_small true = omega arith

@@ -1,9 +1,9 @@
 -- The parts of an atom and of a clause, as their bits have them.
-use Prim.Native.Nat.{ℕ, ◌^◌, ◌<◌, min}
-use mathlib.Core.Path.{◌≡◌, sym, ap, subst, ◌∙◌}
-use mathlib.Core.List.{List, ◌++◌}
+use Prim.Native.Nat.{ℕ, zero, suc, ◌^◌, ◌<◌, min}
+use mathlib.Core.Path.{◌≡◌, refl, sym, ap, subst, ◌∙◌}
+use mathlib.Core.List.{List, [], ◌∷◌, ◌++◌, map}
 use native.Mathlib.Omega.{arith}
-use lib.ListN.{get_or}
+use lib.ListN.{length, get_or}
 use Rattle.bits.specs.Bits.{bits}
 use Rattle.meaning.specs.declared.Atom.{Atom}
 use Rattle.meaning.specs.Values.{Kind, integer, token, boolean, kind_number}
@@ -26,6 +26,11 @@ pub kind_small : (k : Kind) → kind_number k < 2 ^ 2
 kind_small integer = omega arith
 kind_small token = omega arith
 kind_small boolean = omega arith
+
+pub kind_got : (ks : List Kind) (i : ℕ) → i < length ks → get_or (map kind_number ks) i 0 ≡ kind_number (get_or ks i integer)
+kind_got [] i h = absurd (omega arith)
+kind_got (k ∷ ks) zero h = refl
+kind_got (k ∷ ks) (suc i) h = kind_got ks i (omega arith)
 
 -- an atom is its variable, its operator's number and its operand
 pub atom_written : (o bs s : List ℕ) (p : ℕ) (kinds : List ℕ) (a : Atom) (op k : ℕ) → op ≡ min a.operator 8 → k ≡ get_or kinds a.variable 0

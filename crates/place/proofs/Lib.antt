@@ -1,4 +1,3 @@
-pub mod PlaceLaws
-pub mod HeadLaws
 pub mod AtomHeadLaws
+pub mod HeadLaws
 pub mod Vectors

@@ -1,25 +1,18 @@
 -- A field read as a thin reader has it: the answer by itself, and the place that it leaves behind.
-use Rattle.std.specs.Prelude.{ℕ, ◌≡◌, List}
+use Rattle.std.specs.Prelude.{ℕ, ◌≡◌, Result, Ok, Err}
 use Rattle.bits.specs.declared.Place.{Place}
-use Rattle.bits.specs.declared.Field.{Field}
-use Rattle.bits.specs.declared.Field.TheVariants as field
-use Rattle.place.specs.declared.Taken.{Taken}
-use Rattle.place.specs.declared.Taken.TheVariants as taken
-use Rattle.place.specs.declared.Step.{Step}
+use Rattle.refusals.specs.declared.Refusal.{Refusal}
 
 -- the answer of a field read, without the place
-unfoldable pub taken_of : Field → Taken
-taken_of (field.Value v q) = taken.Value v
-taken_of (field.Refused n) = taken.Refused n
+abbrev pub taken_of : Result (ℕ × Place) Refusal → Result ℕ Refusal
+taken_of (Ok (v, q)) = Ok v
+taken_of (Err e) = Err e
 
 -- "each field read moves it on". A refusal leaves the place unmoved.
-unfoldable pub place_after : Field → Place → Place
-place_after (field.Value v q) p = q
-place_after (field.Refused n) p = p
+abbrev pub place_after : Result (ℕ × Place) Refusal → Place → Place
+place_after (Ok (v, q)) p = q
+place_after (Err e) p = p
 
-abbrev pub step_of : Field → Place → Step
-step_of f p = record { taken = taken_of f; next = place_after f p }
-
--- what a thin reader over a covered one has read, by the same definition: its answer t, and the place q that it leaves
-abbrev pub Moves : (List ℕ → Place → ℕ → Field) → List ℕ → Place → ℕ → Taken → Place → Type 0
-Moves read s p n t q = (t ≡ taken_of (read s p n)) × (q ≡ place_after (read s p n) p)
+-- what a thin reader has read at the place p, where reading there by value answers f: its answer t, and the place q that it leaves
+abbrev pub Moves : Result (ℕ × Place) Refusal → Place → Result ℕ Refusal → Place → Type 0
+Moves f p t q = (t ≡ taken_of f) × (q ≡ place_after f p)

@@ -1,19 +1,13 @@
 -- From the search to the meaning: what `solve` and `satisfiable` rest on, free of code. Assumes nothing.
-use Prim.Native.Nat.{ℕ, ◌<◌, ◌^◌}
-use native.Mathlib.Omega.{arith}
-use native.Mathlib.Decide.{ℕ_discrete}
-use mathlib.Core.Path.{◌≡◌, refl, sym, ◌∙◌, ap, subst}
-use mathlib.Core.Bool.{Bool, true, false}
-use mathlib.Core.List.{List}
-use lib.ListN.{get_or, replicate}
+use Rattle.std.proofs.Common.{◌≡◌, ℕ, ◌<◌, ◌^◌, Bool, true, false, List, get_or, replicate, Option, Some, None, refl, sym, ◌∙◌, ap, subst, arith}
+use Rattle.std.specs.Option.{is_some}
 use lib.Dec.{eqb}
-use borrow.Author.Tests.{eqb-true, ne_eqb, eq-eqb}
+use borrow.Author.Tests.{eqb-true}
 use Rattle.words.specs.Meaning.{Test, Content, Sat, Test.one_of, Test.none_of, Test.test_at_most, Test.test_at_least, Test.under, Test.over, Test.test_null, Test.test_not_null, Content.null, Content.value, Atom.equals, Atom.holds, allows, wants, passes, same, met, pick_atom, var_at, op_at, other_at, test_at, atom_at, atoms}
 use Rattle.words.specs.Ties.{pick_n, mate_at, Met, Model, Needs}
-use Rattle.reach.specs.Solution.{Settles, Within, pick_c, contents, Asks, Solves, Answers}
-use Rattle.reach.specs.declared.Settled.{Settled}
-use Rattle.reach.specs.declared.Solved.{Solved}
-use Rattle.words.proofs.NeedLaws.{clash, has_value, zero_at}
+use Rattle.reach.specs.Solution.{Settled, Within, pick_c, contents, Asks, IsLeast, Solves, Answers}
+use Rattle.reach.specs.declared.Solution.{Solution}
+use Rattle.words.proofs.NeedLaws.{clash, has_value, zero_at, unmarked}
 
 -- the atom's two forms mean the same
 
@@ -70,21 +64,22 @@ no_value test_not_null n w h = clash refl w
 
 -- the contents that are read off
 
-pub null_there : (need x : List ℕ) (v : ℕ) → get_or need v 0 ≡ 0 → contents need x v ≡ null
-null_there need x v e = ap (λ (b : Bool). pick_c b null (value (get_or x v 0))) (eq-eqb (get_or need v 0) 0 e)
+pub null_there : (need : List Bool) (x : List ℕ) (v : ℕ) → get_or need v false ≡ false → contents need x v ≡ null
+null_there need x v e = ap (λ (b : Bool). pick_c b (value (get_or x v 0)) null) e
 
-pub value_there : (need x : List ℕ) (v : ℕ) → (get_or need v 0 ≡ 0 → ⊥) → contents need x v ≡ value (get_or x v 0)
-value_there need x v ne = ap (λ (b : Bool). pick_c b null (value (get_or x v 0))) (ne_eqb (get_or need v 0) 0 ne)
+pub value_there : (need : List Bool) (x : List ℕ) (v : ℕ) → get_or need v false ≡ true → contents need x v ≡ value (get_or x v 0)
+value_there need x v e = ap (λ (b : Bool). pick_c b (value (get_or x v 0)) null) e
 
-pub value_is : (need x : List ℕ) (v n : ℕ) → contents need x v ≡ value n → (get_or need v 0 ≡ 0 → ⊥) × (get_or x v 0 ≡ n)
-value_is need x v n e =
-    let ne : get_or need v 0 ≡ 0 → ⊥ = λ z. let a : contents need x v ≡ null = null_there need x v z in let b : ◌≡◌ {A = ℕ} 0 1 = cc in omega arith in
-    let c : contents need x v ≡ value (get_or x v 0) = value_there need x v ne in
-    (ne, cc)
+pub value_is : (need : List Bool) (x : List ℕ) (v n : ℕ) → contents need x v ≡ value n → (get_or need v false ≡ true) × (get_or x v 0 ≡ n)
+value_is need x v n e = go (get_or need v false) refl
+  where
+    go : (b : Bool) → get_or need v false ≡ b → (get_or need v false ≡ true) × (get_or x v 0 ≡ n)
+    go true z = let c : contents need x v ≡ value (get_or x v 0) = value_there need x v z in (z, cc)
+    go false z = let a : contents need x v ≡ null = null_there need x v z in let b : ◌≡◌ {A = ℕ} 0 1 = cc in absurd (omega arith)
 
 -- what solve shows
 
-module _ (s top need0 floor need : List ℕ) (r : Settled) (bound : (v : ℕ) → get_or top v 0 < 2 ^ 64) (nd : Needs s (atoms s) need0 need) (st : Settles s need floor r) where
+module _ (s top : List ℕ) (need0 : List Bool) (floor : List ℕ) (need : List Bool) (bound : (v : ℕ) → get_or top v 0 < 2 ^ 64) (nd : Needs s (atoms s) need0 need) where
   model : (e : ℕ → Content) → Sat s top e → Asks need0 floor e → Model s need floor e
   model e h a =
       nd.only floor e
@@ -95,70 +90,66 @@ module _ (s top need0 floor need : List ℕ) (r : Settled) (bound : (v : ℕ) �
         above = a.above;
       }
 
-  met_there : r.ok ≡ true → (i : ℕ) → i < atoms s → Met s i (contents need r.x)
-  met_there ok i li = go (wants (test_at s i)) refl
-    where
-      go : (b : Bool) → wants (test_at s i) ≡ b → Met s i (contents need r.x)
-      go true w =
-          let nv = nd.wanted i li w in
-          let g = st.yes ok i li nv in
-          let a = value_there need r.x (var_at s i) nv in
-          let b = value_there need r.x (mate_at s i) (nd.mates i li w) in
-          (subst (λ (c : Content). passes (test_at s i) c) (sym a) g.0, a ∙ ap value g.1 ∙ sym b)
-      go false w = at (ℕ_discrete (get_or need (var_at s i) 0) 0)
-        where
-          at : Dec (get_or need (var_at s i) 0 ≡ 0) → Met s i (contents need r.x)
-          at (yes z) = (subst (λ (c : Content). passes (test_at s i) c) (sym (null_there need r.x (var_at s i) z)) w, ap (contents need r.x) (sym (own_mate s i w)))
-          at (no ne) = absurd (no_value (test_at s i) _ w (st.yes ok i li ne).0)
+  pub solves_stuck : ((e : ℕ → Content) → Model s need floor e → ⊥) → Solves s top need0 floor None
+  solves_stuck f e h a = f e (model e h a)
 
-  pub solves_yes : r.ok ≡ true → {b : Bool} → b ≡ true → Within need r.x top b → Solves s top need0 floor (record { ok = true; need = need; x = r.x })
-  solves_yes ok d h =
-      let w : Within need r.x top true = subst (λ (c : Bool). Within need r.x top c) d h in
-      record {
-        sat = λ q.
-            record {
-              fits = λ v n l e. let g = value_is need r.x v n e in let b = w v l g.0 in let d = g.1 in omega arith;
-              meets = λ i l. Met_met s i (contents need r.x) (met_there ok i l);
-            };
-        asks = λ q.
-            record {
-              needed = λ v l ne z.
-                  let a : contents need r.x v ≡ value (get_or r.x v 0) = value_there need r.x v (nd.kept v ne) in
-                  let b : ◌≡◌ {A = ℕ} 0 1 = cc in
-                  omega arith;
-              above = λ v n l e. let g = value_is need r.x v n e in let d = g.1 in let b = st.rises v in omega arith;
-            };
-        least = λ q e h a. st.least e (model e h a);
-        surely = λ q v l ne e h a. (model e h a).needed v l ne;
-        none = λ q. absurd (clash refl q);
-      }
+  module _ (x : List ℕ) (st : Settled s need floor x) where
+    met_there : (i : ℕ) → i < atoms s → Met s i (contents need x)
+    met_there i li = go (wants (test_at s i)) refl
+      where
+        go : (b : Bool) → wants (test_at s i) ≡ b → Met s i (contents need x)
+        go true w =
+            let y = nd.wanted i li w in
+            let g = st.yes i li y in
+            let a = value_there need x (var_at s i) y in
+            let b = value_there need x (mate_at s i) (nd.mates i li w) in
+            (subst (λ (c : Content). passes (test_at s i) c) (sym a) g.0, a ∙ ap value g.1 ∙ sym b)
+        go false w = at (get_or need (var_at s i) false) refl
+          where
+            at : (b : Bool) → get_or need (var_at s i) false ≡ b → Met s i (contents need x)
+            at false z = (subst (λ (c : Content). passes (test_at s i) c) (sym (null_there need x (var_at s i) z)) w, ap (contents need x) (sym (own_mate s i w)))
+            at true y = absurd (no_value (test_at s i) _ w (st.yes i li y).0)
 
-  solves_no : ((e : ℕ → Content) → Model s need floor e → Sat s top e → ⊥) → Solves s top need0 floor (record { ok = false; need = need; x = r.x })
-  solves_no f =
-      record { sat = λ q. absurd (clash q refl); asks = λ q. absurd (clash q refl); least = λ q. absurd (clash q refl); surely = λ q. absurd (clash q refl); none = λ q e h a. f e (model e h a) h }
+    pub solves_yes : {b : Bool} → b ≡ true → Within need x top b → IsLeast s top need0 floor (record { need = need; x = x })
+    solves_yes d h =
+        let w : Within need x top true = subst (λ (c : Bool). Within need x top c) d h in
+        record {
+          sat =
+              record {
+                fits = λ v n l e. let g = value_is need x v n e in let b = w v l g.0 in let d = g.1 in omega arith;
+                meets = λ i l. Met_met s i (contents need x) (met_there i l);
+              };
+          asks =
+              record {
+                needed = λ v l y z.
+                    let a : contents need x v ≡ value (get_or x v 0) = value_there need x v (nd.kept v y) in
+                    let b : ◌≡◌ {A = ℕ} 0 1 = cc in
+                    omega arith;
+                above = λ v n l e. let g = value_is need x v n e in let d = g.1 in let b = st.rises v in omega arith;
+              };
+          least = λ e h a. st.least e (model e h a);
+          surely = λ v l y e h a. (model e h a).needed v l y;
+        }
 
-  pub solves_stuck : r.ok ≡ false → Solves s top need0 floor (record { ok = false; need = need; x = r.x })
-  solves_stuck ok = solves_no (λ e m h. st.none ok e m)
-
-  pub solves_out : {b : Bool} → b ≡ false → Within need r.x top b → Solves s top need0 floor (record { ok = false; need = need; x = r.x })
-  solves_out q v =
-      let w : Within need r.x top false = subst (λ (c : Bool). Within need r.x top c) q v in
-      solves_no
-      (λ e m h.
-      let a = has_value (e w.0) (m.needed w.0 w.1 w.2) in
-      let b = st.least e m w.0 a.0 w.1 a.1 in
-      let d = h.fits w.0 a.0 w.1 a.1 in
-      let g = w.3 in
-      omega arith)
+    pub solves_out : {b : Bool} → b ≡ false → Within need x top b → Solves s top need0 floor None
+    solves_out q v e h a =
+        let w : Within need x top false = subst (λ (c : Bool). Within need x top c) q v in
+        let m = model e h a in
+        let b = has_value (e w.0) (m.needed w.0 w.1 w.2) in
+        let d = st.least e m w.0 b.0 w.1 b.1 in
+        let f = h.fits w.0 b.0 w.1 b.1 in
+        let g = w.3 in
+        omega arith
 
 abbrev pub zeros : List ℕ
 zeros = replicate 32 0
 
-pub asks_nothing : (e : ℕ → Content) → Asks zeros zeros e
-asks_nothing e = record { needed = λ v l ne. absurd (ne (zero_at 32 v)); above = λ v n l q. let z = zero_at 32 v in omega arith }
+abbrev pub none : List Bool
+none = replicate 32 false
 
-pub answers_yes : (s top : List ℕ) (r : Solved) → Solves s top zeros zeros r → r.ok ≡ true → Answers s top true
-answers_yes s top r h ok = (contents r.need r.x, h.sat ok)
+pub asks_nothing : (e : ℕ → Content) → Asks none zeros e
+asks_nothing e = record { needed = λ v l y. absurd (clash y (unmarked 32 v)); above = λ v n l q. let z = zero_at 32 v in omega arith }
 
-pub answers_no : (s top : List ℕ) (r : Solved) → Solves s top zeros zeros r → r.ok ≡ false → Answers s top false
-answers_no s top r h ok = λ e m. h.none ok e m (asks_nothing e)
+pub answers : (s top : List ℕ) (f : Option Solution) → Solves s top none zeros f → Answers s top (is_some f)
+answers s top (Some r) h = (contents r.need r.x, h.sat)
+answers s top None h = λ e m. h e m (asks_nothing e)

@@ -4,74 +4,89 @@ use native.Mathlib.Omega.{arith}
 use mathlib.Core.Path.{◌≡◌, refl, sym, ap, subst, ◌∙◌}
 use mathlib.Core.Bool.{cond}
 use mathlib.Core.List.{List, [], ◌∷◌, ◌++◌, append_assoc, append-nil}
-use lib.ListN.{length, take}
+use lib.ListN.{length}
 use borrow.Author.Tests.{le-leb, lt-leb}
-use Rattle.lists.specs.Lists.{numbers_from, each, Each}
+use Rattle.std.specs.Prelude.{Ok, Err}
+use Rattle.refusals.specs.declared.Refusal.{Refusal}
+use Rattle.lists.specs.Lists.{each, Each}
 use Rattle.lists.proofs.ListLaws.{each_more}
 use Rattle.lists.proofs.NumberLaws.{numbers_more}
 use Rattle.meaning.specs.declared.Life.{Life}
 use Rattle.meaning.specs.declared.Isolation.{Isolation}
-use Rattle.meaning.specs.declared.BranchCount.{BranchCount}
-use Rattle.meaning.specs.declared.BranchCount.TheVariants.{Branches}
 use Rattle.meaning.specs.Sheets.{Sheet, branch_count}
+use Rattle.meaning.specs.Packed.{packed}
 use Rattle.meaning.specs.Text.{ascii}
 use Rattle.meaning.specs.Replies.{DeadReply, IsolatedReply, BranchesReply}
 use Rattle.meaning.specs.Reading.{refused, read_sheet}
 use Rattle.meaning.specs.ReadOut.{decimal, Verdicts, Line, Printed, ReadOut}
 use Rattle.meaning.specs.Demands.{Accepted}
-use Rattle.text.specs.Wrote.{Wrote}
-use Rattle.text.proofs.WroteLaws.{wrote_none, wrote_then}
-use Rattle.meaning.proofs.SheetLaws.{accepted_as}
-use Rattle.sheet.specs.declared.Directory.{Directory}
-use Rattle.sheet.specs.Directory.{Found}
+use Rattle.text.specs.declared.Writer.{Writer}
+use Rattle.text.specs.Wrote.{Adds}
+use Rattle.text.proofs.WroteLaws.{adds_none, adds_then}
 use Rattle.report.specs.Texts.{verdicts_text, letter_of, head_text, opening_text, refusal_text}
 use Rattle.report.specs.Lines.{Writes, IsRest, Asked, FirstLines}
 use Rattle.report.proofs.KnownLaws.{count_known, life_known, isolation_known}
 
-module _ (s : List ℕ) (t command : ℕ) {before after : List ℕ} {at r : ℕ} where
-  -- no count: that is not so of a table that is there
-  pub rest_lost : (x : BranchCount) (n : ℕ) → BranchesReply s t command x → x ≡ BranchCount.Refused n → Asked s t command (λ sheet. Writes (IsRest sheet t command) before at after r)
-  rest_lost x n h e sheet a there known =
-      let c = count_known s sheet a t command there known x h in
-      absurd (let z : ◌≡◌ {A = ℕ} 0 1 = cc in omega arith)
+module _ (sheet : Sheet) (t command : ℕ) where
+  -- N is what is replied
+  count_is : (n : ℕ) → BranchesReply (packed sheet) t command (Ok n) → Asked sheet t command (n ≡ branch_count sheet t command)
+  count_is n h allowed there known = let c = count_known sheet t command allowed there known (Ok n) h in cc
 
-  -- too many branches
-  pub rest_refused : (x : BranchCount) (n : ℕ) → BranchesReply s t command x → x ≡ Branches n → 256 < n → Wrote before at (ascii "refused 13") after r → Asked s t command (λ sheet. Writes (IsRest sheet t command) before at after r)
-  rest_refused x n h e many w sheet a there known =
-      let c = count_known s sheet a t command there known x h in
-      let m : n ≡ branch_count sheet t command = cc in
-      record { text = ascii "refused 13"; wrote = w; says = subst (λ b. cond b (Verdicts sheet t command (ascii "refused 13")) (ascii "refused 13" ≡ ascii "refused 13")) (sym (lt-leb (branch_count sheet t command) 256 (omega arith))) refl }
+  module _ {w v : Writer} where
+    -- no count: that is not so of a table that is there
+    pub rest_lost : (e : Refusal) → BranchesReply (packed sheet) t command (Err e) → Asked sheet t command (Writes (IsRest sheet t command) w v)
+    rest_lost e h allowed there known = let c = count_known sheet t command allowed there known (Err e) h in absurd (cc)
 
-  -- the verdicts
-  pub rest_told : (x : BranchCount) (life : Life) (isolation : Isolation) (n : ℕ) → BranchesReply s t command x → x ≡ Branches n → n ≤ 256 → DeadReply s t command life → IsolatedReply s t command isolation →
-      Wrote before at (verdicts_text n life isolation) after r → Asked s t command (λ sheet. Writes (IsRest sheet t command) before at after r)
-  unfolding Verdicts
-  rest_told x life isolation n h e few d i w sheet a there known =
-      let c = count_known s sheet a t command there known x h in
-      let m : n ≡ branch_count sheet t command = cc in
-      let l : branch_count sheet t command ≤ 256 = omega arith in
-      record {
-        text = verdicts_text n life isolation;
-        wrote = w;
-        says = subst (λ b. cond b (Verdicts sheet t command (verdicts_text n life isolation)) (verdicts_text n life isolation ≡ ascii "refused 13")) (sym (le-leb (branch_count sheet t command) 256 l))
-            (life, isolation, life_known s sheet a t command there known l life d, isolation_known s sheet a t command there known l isolation i, ap (λ k. verdicts_text k life isolation) m);
-      }
+    -- too many branches
+    pub rest_refused : (n : ℕ) → BranchesReply (packed sheet) t command (Ok n) → 256 < n → Adds w (ascii "refused 13") v → Asked sheet t command (Writes (IsRest sheet t command) w v)
+    rest_refused n h many g allowed there known =
+        let m = count_is n h allowed there known in
+        record { text = ascii "refused 13"; adds = g; says = subst (λ b. cond b (Verdicts sheet t command (ascii "refused 13")) (ascii "refused 13" ≡ ascii "refused 13")) (sym (lt-leb (branch_count sheet t command) 256 (omega arith))) refl }
+
+  -- else there are verdicts
+  module _ (n : ℕ) (h : BranchesReply (packed sheet) t command (Ok n)) (few : n ≤ 256) where
+    few_there : Asked sheet t command (branch_count sheet t command ≤ 256)
+    few_there allowed there known = let m = count_is n h allowed there known in omega arith
+
+    module _ {w v : Writer} where
+      pub life_lost : (e : Refusal) → DeadReply (packed sheet) t command (Err e) → Asked sheet t command (Writes (IsRest sheet t command) w v)
+      life_lost e d allowed there known = absurd (life_known sheet t command allowed there known (few_there allowed there known) (Err e) d)
+
+      pub isolation_lost : (e : Refusal) → IsolatedReply (packed sheet) t command (Err e) → Asked sheet t command (Writes (IsRest sheet t command) w v)
+      isolation_lost e i allowed there known = absurd (isolation_known sheet t command allowed there known (few_there allowed there known) (Err e) i)
+
+      pub rest_told : (life : Life) (isolation : Isolation) → DeadReply (packed sheet) t command (Ok life) → IsolatedReply (packed sheet) t command (Ok isolation) → Adds w (verdicts_text n life isolation) v →
+          Asked sheet t command (Writes (IsRest sheet t command) w v)
+      unfolding Verdicts
+      rest_told life isolation d i g allowed there known =
+          let l = few_there allowed there known in
+          record {
+            text = verdicts_text n life isolation;
+            adds = g;
+            says = subst (λ b. cond b (Verdicts sheet t command (verdicts_text n life isolation)) (verdicts_text n life isolation ≡ ascii "refused 13")) (sym (le-leb (branch_count sheet t command) 256 l)) (
+              life,
+              isolation,
+              life_known sheet t command allowed there known l (Ok life) d,
+              isolation_known sheet t command allowed there known l (Ok isolation) i,
+              ap (λ k. verdicts_text k life isolation) (count_is n h allowed there known),
+            );
+          }
 
 -- a line: its head, its rest and its end
-pub line_told : (s : List ℕ) (t command : ℕ) {b m n a : List ℕ} {at k j r : ℕ} → Wrote b at (head_text t command) m k → Asked s t command (λ sheet. Writes (IsRest sheet t command) m k n j) → Wrote n j (10 ∷ []) a r →
-    Asked s t command (λ sheet. Writes (Line sheet t command) b at a r)
+pub line_told : (sheet : Sheet) (t command : ℕ) {w v u z : Writer} → Adds w (head_text t command) v → Asked sheet t command (Writes (IsRest sheet t command) v u) → Adds u (10 ∷ []) z →
+    Asked sheet t command (Writes (Line sheet t command) w z)
 unfolding letter_of
-line_told s t command {b} {m} {n} {a} {at} {k} {j} {r} h f e sheet acc there known =
-    let w = f sheet acc there known in
+line_told sheet t command h f e allowed there known =
+    let g = f allowed there known in
     record {
-      text = head_text t command ++ (w.text ++ (10 ∷ []));
-      wrote = wrote_then h (wrote_then w.wrote e);
+      text = head_text t command ++ (g.text ++ (10 ∷ []));
+      adds = adds_then h (adds_then g.adds e);
       says =
           record {
-            rest = w.text;
-            verdicts = w.says;
+            rest = g.text;
+            verdicts = g.says;
             text_is =
-                append_assoc (decimal t) (ascii " " ++ (letter_of command ∷ ascii " ")) (w.text ++ (10 ∷ []));
+                append_assoc (decimal t) (ascii " " ++ (letter_of command ∷ ascii " ")) (g.text ++ (10 ∷ []));
           };
     }
 
@@ -94,32 +109,23 @@ lines_more sheet n text line f l =
     }
 
 -- one line more
-pub lines_step : (sheet : Sheet) (n : ℕ) {b m a : List ℕ} {at k r : ℕ} → Writes (FirstLines sheet n) b at m k → Writes (Line sheet (n / 4) (n % 4)) m k a r → Writes (FirstLines sheet (n + 1)) b at a r
-lines_step sheet n f l = record { text = f.text ++ l.text; wrote = wrote_then f.wrote l.wrote; says = lines_more sheet n f.text l.text f.says l.says }
+pub lines_step : (sheet : Sheet) (n : ℕ) {w v u : Writer} → Writes (FirstLines sheet n) w v → Writes (Line sheet (n / 4) (n % 4)) v u → Writes (FirstLines sheet (n + 1)) w u
+lines_step sheet n f l = record { text = f.text ++ l.text; adds = adds_then f.adds l.adds; says = lines_more sheet n f.text l.text f.says l.says }
 
-pub lines_start : (sheet : Sheet) (b : List ℕ) (at : ℕ) → Writes (FirstLines sheet 0) b at b at
-lines_start sheet b at = record { text = []; wrote = wrote_none b at; says = lines_none sheet }
+pub lines_start : (sheet : Sheet) (w : Writer) → Writes (FirstLines sheet 0) w w
+lines_start sheet w = record { text = []; adds = adds_none w; says = lines_none sheet }
 
 -- the whole: a refused sheet's line, or the opening and the lines
-pub out_refused : (s : List ℕ) (n : ℕ) {b a : List ℕ} {r : ℕ} → read_sheet s ≡ refused n → Wrote b 0 (refusal_text n) a r → ReadOut s (take r a)
+pub out_refused : (s : List ℕ) (n : ℕ) {k : ℕ} {w v : Writer} → n ≡ k → read_sheet s ≡ refused k → Adds w (refusal_text n) v → Writes (ReadOut s) w v
 unfolding ReadOut
-out_refused s n {b} {a} {r} e w = subst (λ x. Printed x (take r a)) (sym e) w.front
+out_refused s n is e g = record { text = refusal_text n; adds = g; says = subst (λ x. Printed x (refusal_text n)) (sym (e ∙ ap refused (sym is))) refl }
 
-pub out_told : (s : List ℕ) (d : Directory) (tables : ℕ) {book b m a : List ℕ} {k r : ℕ} → Found s d book → (d.facts.tables ≤ 16 → tables ≡ d.facts.tables) →
-    Wrote b 0 (opening_text d.facts.tables d.policies) m k → ((x : Sheet) → Accepted s x → length x.tables ≡ tables → Writes (FirstLines x (tables * 4)) m k a r) → ReadOut s (take r a)
+pub out_told : (s : List ℕ) (x : Sheet) (tables policies : ℕ) {w v u : Writer} → Accepted s x → tables ≡ length x.tables → policies ≡ length x.policies →
+    Adds w (opening_text tables policies) v → Writes (FirstLines x (length x.tables * 4)) v u → Writes (ReadOut s) w u
 unfolding ReadOut
-out_told s d tables {book} {b} {m} {a} {k} {r} f same w ls =
-    let x = f.sheet in
-    let acc : Accepted s x = (f.end, f.read) in
-    let T = f.described.facts.tables in
-    let P = f.described.policies in
-    let few = (accepted_as s x acc).allowed.tables in
-    let e : tables ≡ d.facts.tables = same (omega arith) in
-    let l = ls x acc (sym (e ∙ T)) in
-    let t : tables * 4 ≡ length x.tables * 4 = ap (λ n. n * 4) (e ∙ T) in
-    let all = wrote_then w l.wrote in
-    let parts : opening_text d.facts.tables d.policies ++ l.text ≡ ascii "tables " ++ (decimal (length x.tables) ++ (ascii " policies " ++ (decimal (length x.policies) ++ (ascii "\n" ++ each (λ y. y) l.says.lines)))) =
-    ap (λ z. opening_text d.facts.tables d.policies ++ z) l.says.text_is ∙ ap (λ z. opening_text z d.policies ++ each (λ y. y) l.says.lines) T ∙ ap (λ z. opening_text (length x.tables) z ++ each (λ y. y) l.says.lines) P
+out_told s x tables policies {w} {v} {u} acc T P g l =
+    let text = opening_text tables policies ++ l.text in
+    let parts : text ≡ ascii "tables " ++ (decimal (length x.tables) ++ (ascii " policies " ++ (decimal (length x.policies) ++ (ascii "\n" ++ each (λ y. y) l.says.lines)))) =
+    ap (λ z. opening_text tables policies ++ z) l.says.text_is ∙ ap (λ z. opening_text z policies ++ each (λ y. y) l.says.lines) T ∙ ap (λ z. opening_text (length x.tables) z ++ each (λ y. y) l.says.lines) P
     ∙ simp append_assoc in
-    subst (λ z. Printed z (take r a)) (sym f.read)
-    (record { lines = l.says.lines; each_line = subst (λ n. Each (λ i y. Line x (i / 4) (i % 4) y) (numbers_from 0 n) l.says.lines) t l.says.each_line; text_is = all.front ∙ parts })
+    record { text = text; adds = adds_then g l.adds; says = subst (λ z. Printed z text) (sym acc.1) (record { lines = l.says.lines; each_line = l.says.each_line; text_is = parts }) }

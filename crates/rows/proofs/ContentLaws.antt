@@ -1,5 +1,6 @@
 -- One content: a law for each way in which the code answers.
 use Prim.Native.Nat.{ℕ, ◌+◌, ◌-◌, ◌*◌, ◌/◌, ◌%◌, ◌^◌, ◌<◌, ◌≤◌}
+use native.Mathlib.Decide.{dec_lt}
 use native.Mathlib.Omega.{arith}
 use mathlib.Core.Path.{◌≡◌, refl, sym, ap, subst, ◌∙◌}
 use mathlib.Core.List.{List}
@@ -11,8 +12,7 @@ use Rattle.meaning.specs.declared.Content.{Content}
 use Rattle.meaning.specs.declared.Content.TheVariants.{Null, Value}
 use Rattle.meaning.specs.Values.{Kind, last, raw}
 use Rattle.meaning.specs.Reading.{Read, found, refused, field, value, content}
-use Rattle.rows.specs.declared.ContentRead.{ContentRead}
-use Rattle.rows.specs.declared.ContentRead.TheVariants.{Found, Lost}
+use Rattle.std.specs.Prelude.{Option, Some, None}
 use Rattle.rows.specs.Held.{content_found, ended_by}
 
 -- a bit of a byte, and a byte's last bits, as the code takes them
@@ -34,19 +34,19 @@ module _ (s : List ℕ) (p : ℕ) {b : ℕ} (byte : b ≡ get_or s (p / 8) 0) wh
 
 module _ (k : Kind) (s : List ℕ) (p : ℕ) where
   -- no presence bit
-  pub content_cut : length s ≤ p / 8 → Lost ≡ content_found (content k s p)
+  pub content_cut : length s ≤ p / 8 → None ≡ content_found (content k s p)
   unfolding content field
   content_cut h = simp (lt-leb (p + 1) (length s * 8) (omega arith))
 
   module _ (there : p / 8 < length s) {b : ℕ} (bit : b ≡ number s p 1) where
     -- "one presence bit (0 is null)"
-    pub content_null : b ≡ 0 → Found Null (p + 1) ≡ content_found (content k s p)
+    pub content_null : b ≡ 0 → Some (Null, p + 1) ≡ content_found (content k s p)
     unfolding content field
     content_null z = simp (le-leb (p + 1) (length s * 8) (omega arith), eq-eqb (number s p 1) 0 (sym bit ∙ z))
 
     module _ (one : b ≡ 0 → ⊥) where
       -- a value that is not wholly there
-      pub content_short : length s < (p + 72) / 8 → Lost ≡ content_found (content k s p)
+      pub content_short : length s < (p + 72) / 8 → None ≡ content_found (content k s p)
       unfolding content field value
       content_short h =
           simp (le-leb (p + 1) (length s * 8) (omega arith), ne_eqb (number s p 1) 0 (λ z. one (bit ∙ z)), lt-leb (p + 1 + 64) (length s * 8) (omega arith))
@@ -56,35 +56,54 @@ module _ (k : Kind) (s : List ℕ) (p : ℕ) where
         same = code ∙ ap (raw k) read
 
         -- "and, if that is 1, a value of its kind"
-        pub content_value : v ≤ l → Found (Value v) (p + 65) ≡ content_found (content k s p)
+        pub content_value : v ≤ l → Some (Value v, p + 65) ≡ content_found (content k s p)
         unfolding content field value
         content_value h =
             let e : p + 65 ≡ p + 1 + 64 = omega arith in
             simp (le-leb (p + 1) (length s * 8) (omega arith), ne_eqb (number s p 1) 0 (λ z. one (bit ∙ z)), le-leb (p + 1 + 64) (length s * 8) (omega arith), le-leb (raw k (number s (p + 1) 64)) (last k) (omega (arith, same)))
-            (ap (λ y. Found (Value y) (p + 65)) same ∙ ap (Found (Value (raw k (number s (p + 1) 64)))) e)
+            (ap (λ y. Some (Value y, p + 65)) same ∙ ap (λ q. Some (Value (raw k (number s (p + 1) 64)), q)) e)
 
         -- a value out of its kind
-        pub content_strange : l < v → Lost ≡ content_found (content k s p)
+        pub content_strange : l < v → None ≡ content_found (content k s p)
         unfolding content field value
         content_strange h =
             simp (le-leb (p + 1) (length s * 8) (omega arith), ne_eqb (number s p 1) 0 (λ z. one (bit ∙ z)), le-leb (p + 1 + 64) (length s * 8) (omega arith), lt-leb (raw k (number s (p + 1) 64)) (last k) (omega (arith, same)))
 
 -- what an answer tells of the reader
-pub found_of : {r : ContentRead} {x : Content} {q : ℕ} (m : Read Content) → r ≡ content_found m → r ≡ Found x q → m ≡ found x q
-found_of {r} {x} {q} (found y o) e g =
-    let h : Found y o ≡ Found x q = sym e ∙ g in
-    let same : y ≡ x = cc in
-    let end : o ≡ q = cc in
-    λ i. found (same i) (end i)
-found_of {r} {x} {q} (refused n) e g =
-    let h : Lost ≡ Found x q = sym e ∙ g in
-    let z : ◌≡◌ {A = ℕ} 0 1 = cc in absurd (omega arith)
+pub found_of : {r : Option (Content × ℕ)} {x : Content × ℕ} (m : Read Content) → r ≡ content_found m → r ≡ Some x → m ≡ found x.0 x.1
+found_of {r} {x} (found y o) e g =
+    let h : Some (y, o) ≡ Some x = sym e ∙ g in
+    let same : (y, o) ≡ x = cc in
+    ap (λ (z : Content × ℕ). found z.0 z.1) same
+found_of {r} {x} (refused n) e g =
+    let h : None ≡ Some x = sym e ∙ g in
+    absurd (cc)
 
-pub lost_of : {r : ContentRead} (m : Read Content) → r ≡ content_found m → r ≡ Lost → (n : ℕ) × (m ≡ refused n)
+pub lost_of : {r : Option (Content × ℕ)} (m : Read Content) → r ≡ content_found m → r ≡ None → (n : ℕ) × (m ≡ refused n)
 lost_of {r} (found y o) e g =
-    let h : Found y o ≡ Lost = sym e ∙ g in
-    let z : ◌≡◌ {A = ℕ} 0 1 = cc in absurd (omega arith)
+    let h : Some (y, o) ≡ None = sym e ∙ g in
+    absurd (cc)
 lost_of {r} (refused n) e g = (n, refl)
 
-pub ends_by : {r : ContentRead} {x : Content} {q : ℕ} (p m top : ℕ) → r ≡ Found x q → ended_by p m top r → (p ≤ q) × (q ≤ m) × (q ≤ top)
+pub ends_by : {r : Option (Content × ℕ)} {x : Content × ℕ} (p m top : ℕ) → r ≡ Some x → ended_by p m top r → (p ≤ x.1) × (x.1 ≤ m) × (x.1 ≤ top)
 ends_by p m top e h = subst (ended_by p m top) e h
+
+-- what content that is of the form holds, by its bits alone
+module _ (k : Kind) (s : List ℕ) (p : ℕ) (there : p / 8 < length s) {b : ℕ} (bit : b ≡ number s p 1) {x : Content} {q : ℕ} (is : content k s p ≡ found x q) where
+  both : (y : Content) (o : ℕ) → Some (y, o) ≡ content_found (content k s p) → (y ≡ x) × (o ≡ q)
+  both y o e =
+      let h : found y o ≡ found x q = sym (found_of (content k s p) e refl) ∙ is in
+      let same : y ≡ x = cc in
+      let end : o ≡ q = cc in (same, end)
+
+  pub null_of : b ≡ 0 → (Null ≡ x) × (p + 1 ≡ q)
+  null_of z = both Null (p + 1) (content_null k s p there bit z)
+
+  pub value_of : (b ≡ 0 → ⊥) → (p + 72) / 8 ≤ length s → {v y : ℕ} → y ≡ number s (p + 1) 64 → v ≡ raw k y → (Value v ≡ x) × (p + 65 ≡ q)
+  value_of one whole {v} {y} read code = go (dec_lt (last k) v)
+    where
+      go : Dec (last k < v) → (Value v ≡ x) × (p + 65 ≡ q)
+      go (no o) = both (Value v) (p + 65) (content_value k s p there bit one whole read code refl (omega arith))
+      go (yes o) =
+          let h : None ≡ content_found (found x q) = content_strange k s p there bit one whole read code refl o ∙ ap content_found is in
+          absurd (cc)

@@ -1,5 +1,5 @@
 -- Where contents and rows end, without what they hold.
-use Prim.Native.Nat.{ℕ, ◌+◌, ◌-◌, ◌/◌, ◌%◌, ◌^◌, ◌<◌, ◌≤◌}
+use Prim.Native.Nat.{ℕ, ◌+◌, ◌-◌, ◌^◌, ◌<◌, ◌≤◌}
 use native.Mathlib.Numerals.{add-one}
 use native.Mathlib.Omega.{arith}
 use mathlib.Core.Path.{◌≡◌, refl, sym, ap, subst, ◌∙◌}
@@ -8,25 +8,23 @@ use mathlib.Core.List.{List, ◌∷◌}
 use lib.ListN.{length, get_or, drop, drop_of_length-le}
 use lib.Seq.{drop-cons}
 use lib.Dec.{ltb}
-use borrow.Author.Tests.{ltb-true, lt-ltb, ne_eqb, eq-eqb}
+use borrow.Author.Tests.{ltb-true, lt-ltb}
 use Rattle.meaning.specs.declared.Content.{Content}
 use Rattle.meaning.specs.declared.Content.TheVariants.{Null}
 use Rattle.meaning.specs.Values.{Kind, integer, token, boolean, kind_number, last, raw}
-use Rattle.meaning.specs.Sheets.{Sheet, Table, holds}
+use Rattle.meaning.specs.Sheets.{Sheet, Table, holds, member}
 use Rattle.meaning.specs.Reading.{Read, found, refused, on_read, give, content, contents, padding, row}
-use Rattle.rows.specs.declared.ContentRead.{ContentRead}
-use Rattle.rows.specs.declared.ContentRead.TheVariants.{Found, Lost}
-use Rattle.rows.specs.declared.Ended.{Ended}
-use Rattle.rows.specs.declared.Ended.TheVariants as ended
+use Rattle.std.specs.Prelude.{Option, Some, None}
+use Rattle.rows.specs.declared.form.Form.{Form}
 use Rattle.rows.specs.Held.{content_found, end_of, Fields, RowEnds}
 use Rattle.rows.proofs.RowLaws.{at_of, not_of, padding_ends}
 
 -- an answer with its content left out
-abbrev pub ending : ContentRead → Ended
-ending (Found c q) = ended.At q
-ending Lost = ended.Lost
+abbrev pub ending : Option (Content × ℕ) → Option ℕ
+ending (Some r) = Some r.1
+ending None = None
 
-pub ends_as : {r : ContentRead} (m : Read Content) → r ≡ content_found m → ending r ≡ end_of m
+pub ends_as : {r : Option (Content × ℕ)} (m : Read Content) → r ≡ content_found m → ending r ≡ end_of m
 ends_as (found c q) e = ap ending e
 ends_as (refused n) e = ap ending e
 
@@ -48,17 +46,20 @@ drop_end : {A B : Type 0} (m : Read A) (g : A → B) → end_of (on_read m (λ a
 drop_end (found a q) g = refl
 drop_end (refused n) g = refl
 
-module _ (there n : ℕ) (kinds : List ℕ) (f : ℕ → Bool) (ks : List Kind) (h : Fields there 0 n kinds f ks) (s : List ℕ) (from c p : ℕ) (g : Goes f ks s from c p) where
-  pub goes_done : c ≡ n → ended.At p ≡ end_of (contents f 0 ks s from)
+module _ (form : Form) (f : ℕ → Bool) (ks : List Kind) (h : Fields form f ks) (s : List ℕ) (from c p : ℕ) (g : Goes f ks s from c p) where
+  pub goes_done : c ≡ form.n → Some p ≡ end_of (contents f 0 ks s from)
   unfolding contents
   goes_done e =
       let m = h.count in
       let l : length ks ≤ c = omega arith in
       sym (g ∙ ap (λ l. end_of (contents f c l s p)) (drop_of_length-le ks l))
 
-  module _ (l : c < n) (small : c < 16) where
+  module _ (l : c < form.n) where
+    abbrev k : Kind
+    k = get_or ks c integer
+
     head : Read Content
-    head = cond (f c) (content (get_or ks c integer)) (give Null) s p
+    head = cond (f c) (content k) (give Null) s p
 
     next : contents f c (drop c ks) s p ≡ on_read head (λ x q. on_read (contents f (c + 1) (drop (c + 1) ks) s q) (λ more r. found (x ∷ more) r))
     unfolding contents head
@@ -70,39 +71,32 @@ module _ (there n : ℕ) (kinds : List ℕ) (f : ℕ → Bool) (ks : List Kind) 
     on : {x : Content} {q : ℕ} → head ≡ found x q → Goes f ks s from (c + 1) q
     on {x} {q} e = g ∙ ap end_of (next ∙ ap (λ m. on_read m (λ x q. on_read (contents f (c + 1) (drop (c + 1) ks) s q) (λ more r. found (x ∷ more) r))) e) ∙ drop_end (contents f (c + 1) (drop (c + 1) ks) s q) (λ more. x ∷ more)
 
-    pub goes_skips : (there / 2 ^ (15 - c) % 2 ≡ 1 → ⊥) → Goes f ks s from (c + 1) p
+    pub goes_skips : {b : Bool} → b ≡ member 16 form.there c → b ≡ false → Goes f ks s from (c + 1) p
     unfolding head
-    goes_skips e =
-        let no-there : f c ≡ false = h.which c l ∙ simp (lt-ltb c 16 small, ne_eqb (there / 2 ^ (15 - c) % 2) 1 e) in
-        on (ap (λ b. cond b (content (get_or ks c integer)) (give Null) s p) no-there)
+    goes_skips i e = on (ap (λ b. cond b (content k) (give Null) s p) (h.which c l ∙ sym i ∙ e))
 
-    module _ (e : there / 2 ^ (15 - c) % 2 ≡ 1) {r : Ended} (read : (k : Kind) → kind_number k ≡ get_or kinds c 0 → r ≡ end_of (content k s p)) where
-      is : head ≡ content (get_or ks c integer) s p
+    module _ {b : Bool} (i : b ≡ member 16 form.there c) (e : b ≡ true) {r : Option ℕ} (read : (k : Kind) → kind_number k ≡ get_or form.kinds (form.first + c) 0 → r ≡ end_of (content k s p)) where
+      is : head ≡ content k s p
       unfolding head
-      is =
-          let is-there : f c ≡ true = h.which c l ∙ simp (lt-ltb c 16 small, eq-eqb (there / 2 ^ (15 - c) % 2) 1 e) in
-          ap (λ b. cond b (content (get_or ks c integer)) (give Null) s p) is-there
+      is = ap (λ b. cond b (content k) (give Null) s p) (h.which c l ∙ sym i ∙ e)
 
-      same_kind : kind_number (get_or ks c integer) ≡ get_or kinds c 0
-      same_kind = let z : 0 + c ≡ c = omega arith in sym (ap (λ i. get_or kinds i 0) (sym z) ∙ h.kind c l)
+      pub goes_on : {q : ℕ} → r ≡ Some q → Goes f ks s from (c + 1) q
+      goes_on y = let x = at_of (content k s p) (read k (sym (h.kind c l))) y in on (is ∙ x.1)
 
-      pub goes_on : {q : ℕ} → r ≡ ended.At q → Goes f ks s from (c + 1) q
-      goes_on y = let x = at_of (content (get_or ks c integer) s p) (read (get_or ks c integer) same_kind) y in on (is ∙ x.1)
-
-      pub goes_lost : r ≡ ended.Lost → ended.Lost ≡ end_of (contents f 0 ks s from)
+      pub goes_lost : r ≡ None → None ≡ end_of (contents f 0 ks s from)
       goes_lost y =
-          let x = not_of (content (get_or ks c integer) s p) (read (get_or ks c integer) same_kind) y in
+          let x = not_of (content k s p) (read k (sym (h.kind c l))) y in
           sym (g ∙ ap end_of (next ∙ ap (λ m. on_read m (λ x q. on_read (contents f (c + 1) (drop (c + 1) ks) s q) (λ more r. found (x ∷ more) r))) (is ∙ x.1)))
 
 -- and a row: its contents, and zero bits
-module _ (sheet : Sheet) (t : Table) (s : List ℕ) (from : ℕ) {r : Ended} (h : r ≡ end_of (contents (holds t) 0 sheet.columns s from)) where
-  pub row_lost_end : r ≡ ended.Lost → RowEnds (row sheet t s from) ended.Lost
+module _ (sheet : Sheet) (t : Table) (s : List ℕ) (from : ℕ) {r : Option ℕ} (h : r ≡ end_of (contents (holds t) 0 sheet.columns s from)) where
+  pub row_lost_end : r ≡ None → RowEnds (row sheet t s from) None
   unfolding row
   row_lost_end e =
       let z = not_of (contents (holds t) 0 sheet.columns s from) h e in
-      subst (λ m. RowEnds (on_read m (λ xs q. on_read (padding s q) (λ u o. found (λ c. get_or xs c Null) o))) ended.Lost) (sym z.1) refl
+      subst (λ m. RowEnds (on_read m (λ xs q. on_read (padding s q) (λ u o. found (λ c. get_or xs c Null) o))) None) (sym z.1) refl
 
-  pub row_ends_end : {p : ℕ} {end : Ended} → r ≡ ended.At p → end ≡ end_of (padding s p) → RowEnds (row sheet t s from) end
+  pub row_ends_end : {p : ℕ} {end : Option ℕ} → r ≡ Some p → end ≡ end_of (padding s p) → RowEnds (row sheet t s from) end
   unfolding row
   row_ends_end {p} {end} e g =
       let z = at_of (contents (holds t) 0 sheet.columns s from) h e in

@@ -1,3 +1,4 @@
+pub mod CellLaws
 pub mod ContentLaws
 pub mod FillLaws
 pub mod RowLaws

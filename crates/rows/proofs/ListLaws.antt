@@ -9,8 +9,7 @@ use borrow.Author.Tests.{le-leb, lt-leb}
 use Rattle.meaning.specs.Values.{Contents}
 use Rattle.meaning.specs.Sheets.{Sheet, Table}
 use Rattle.meaning.specs.Reading.{Read, found, refused, on_read, nothing_more, Row, row, rows, read_rows}
-use Rattle.rows.specs.declared.Ended.{Ended}
-use Rattle.rows.specs.declared.Ended.TheVariants.{At, Lost}
+use Rattle.std.specs.Prelude.{Option, Some, None}
 use Rattle.rows.specs.Held.{end_of, is_found, RowEnds}
 use Rattle.rows.proofs.RowLaws.{at_of, not_of}
 
@@ -94,7 +93,7 @@ module _ (sheet : Sheet) (t : Table) (s : List ℕ) where
   list_long h = simp (lt-leb (length s) 65536 h)
 
 -- what the code's answer on where a row ends tells
-ends_end : (r : Ended) (m : Read Contents) → RowEnds m r → r ≡ end_of m
+ends_end : (r : Option ℕ) (m : Read Contents) → RowEnds m r → r ≡ end_of m
 ends_end r (found x q) h = h.0
 ends_end r (refused k) h = h
 
@@ -114,18 +113,18 @@ module _ (sheet : Sheet) (t : Table) (s : List ℕ) (p : ℕ) (short : length s 
   pub judged_all : length s ≤ p / 8 → true ≡ is_found (read_rows sheet t s)
   judged_all h = sym (ap is_found (list_short sheet t s short ∙ rowing_ends sheet t s p g.done g.rowing h))
 
-  module _ (h : p / 8 < length s) (r : Ended) (read : RowEnds (row sheet t s p) r) where
-    pub judged_lost : r ≡ Lost → false ≡ is_found (read_rows sheet t s)
+  module _ (h : p / 8 < length s) (r : Option ℕ) (read : RowEnds (row sheet t s p) r) where
+    pub judged_lost : r ≡ None → false ≡ is_found (read_rows sheet t s)
     judged_lost e = sym (ap is_found (list_short sheet t s short ∙ rowing_lost sheet t s p g.done g.rowing h (not_of (row sheet t s p) (ends_end r (row sheet t s p) read) e).1))
 
-    pub judged_stuck : {q : ℕ} → r ≡ At q → p ≤ q → q ≤ p → false ≡ is_found (read_rows sheet t s)
+    pub judged_stuck : {q : ℕ} → r ≡ Some q → p ≤ q → q ≤ p → false ≡ is_found (read_rows sheet t s)
     judged_stuck {q} e l m =
         let x = at_of (row sheet t s p) (ends_end r (row sheet t s p) read) e in
         let same : q ≡ p = omega arith in
         let i = rowing_stuck sheet t s p g.done g.rowing h (x.1 ∙ ap (found x.0) same) in
         sym (ap is_found (list_short sheet t s short ∙ i.1))
 
-    pub judging_on : {q : ℕ} → r ≡ At q → p < q → Judging sheet t s q
+    pub judging_on : {q : ℕ} → r ≡ Some q → p < q → Judging sheet t s q
     judging_on {q} e l =
         let x = at_of (row sheet t s p) (ends_end r (row sheet t s p) read) e in
         let a = g.whole in

@@ -14,53 +14,38 @@ use Rattle.meaning.specs.declared.Content.TheVariants.{Null}
 use Rattle.meaning.specs.Values.{Contents}
 use Rattle.meaning.specs.Sheets.{Sheet, Table, holds}
 use Rattle.meaning.specs.Reading.{Read, found, refused, on_read, contents, padding, nothing_more, row, read_session}
-use Rattle.rows.specs.declared.Ended.{Ended}
-use Rattle.rows.specs.declared.Ended.TheVariants.{At, Lost}
+use Rattle.std.specs.Prelude.{Option, Some, None}
 use Rattle.rows.specs.Held.{within, end_of, Filled, ContentsRead, ContentsHeld, RowHeld, RowRead, SessionHeld, SessionRead}
 
-pub ends_within : {r : Ended} {q : ℕ} (p m top : ℕ) → r ≡ At q → within p m top r → (p ≤ q) × (q ≤ m) × (q ≤ top)
+pub ends_within : {r : Option ℕ} {q : ℕ} (p m top : ℕ) → r ≡ Some q → within p m top r → (p ≤ q) × (q ≤ m) × (q ≤ top)
 ends_within p m top e h = subst (within p m top) e h
 
 -- what an answer tells of the reader
-pub at_of : {A : Type 0} {r : Ended} {q : ℕ} (m : Read A) → r ≡ end_of m → r ≡ At q → (a : A) × (m ≡ found a q)
-at_of {A} {r} {q} (found a o) e g = let h : At o ≡ At q = sym e ∙ g in let same : o ≡ q = cc in (a, ap (found a) same)
-at_of {A} {r} {q} (refused n) e g = let h : Lost ≡ At q = sym e ∙ g in let z : ◌≡◌ {A = ℕ} 0 1 = cc in absurd (omega arith)
+pub at_of : {A : Type 0} {r : Option ℕ} {q : ℕ} (m : Read A) → r ≡ end_of m → r ≡ Some q → (a : A) × (m ≡ found a q)
+at_of {A} {r} {q} (found a o) e g = let h : Some o ≡ Some q = sym e ∙ g in let same : o ≡ q = cc in (a, ap (found a) same)
+at_of {A} {r} {q} (refused n) e g = let h : None ≡ Some q = sym e ∙ g in let z : ◌≡◌ {A = ℕ} 0 1 = cc in absurd (omega arith)
 
-pub not_of : {A : Type 0} {r : Ended} (m : Read A) → r ≡ end_of m → r ≡ Lost → (n : ℕ) × (m ≡ refused n)
-not_of {A} {r} (found a o) e g = let h : At o ≡ Lost = sym e ∙ g in let z : ◌≡◌ {A = ℕ} 0 1 = cc in absurd (omega arith)
+pub not_of : {A : Type 0} {r : Option ℕ} (m : Read A) → r ≡ end_of m → r ≡ None → (n : ℕ) × (m ≡ refused n)
+not_of {A} {r} (found a o) e g = let h : Some o ≡ None = sym e ∙ g in let z : ◌≡◌ {A = ℕ} 0 1 = cc in absurd (omega arith)
 not_of {A} {r} (refused n) e g = (n, refl)
 
-pub contents_end : (first n : ℕ) (before after : Contents) (r : Ended) (m : Read (List Content)) → ContentsRead first n before after m r → r ≡ end_of m
+pub contents_end : (first n : ℕ) (before after : Contents) (r : Option ℕ) (m : Read (List Content)) → ContentsRead first n before after m r → r ≡ end_of m
 contents_end first n before after r (found xs q) h = h.0
 contents_end first n before after r (refused k) h = h
 
-contents_filled : (first n : ℕ) (before after : Contents) (r : Ended) {q : ℕ} {xs : List Content} (m : Read (List Content)) → m ≡ found xs q → ContentsRead first n before after m r → Filled first n xs before after
+contents_filled : (first n : ℕ) (before after : Contents) (r : Option ℕ) {q : ℕ} {xs : List Content} (m : Read (List Content)) → m ≡ found xs q → ContentsRead first n before after m r → Filled first n xs before after
 contents_filled first n before after r m e h = (subst (λ x. ContentsRead first n before after x r) e h).1
-
--- contents that are read hold, where they are of the form
-module _ (first n : ℕ) (before after : Contents) (r : Ended) (m : Read (List Content)) (h : ContentsRead first n before after m r) where
-  pub contents_held : {p : ℕ} → r ≡ At p → ContentsHeld first n before after m p
-  contents_held {p} e xs q is =
-      let both = subst (λ x. ContentsRead first n before after x r) is h in
-      let ends : At p ≡ At q = sym e ∙ both.0 in
-      let same : p ≡ q = cc in (same, both.1)
-
-  pub contents_none : (p : ℕ) → r ≡ Lost → ContentsHeld first n before after m p
-  contents_none p e xs q is =
-      let both = subst (λ x. ContentsRead first n before after x r) is h in
-      let ends : Lost ≡ At q = sym e ∙ both.0 in
-      let z : ◌≡◌ {A = ℕ} 0 1 = cc in absurd (omega arith)
 
 module _ (s : List ℕ) (p : ℕ) where
   abbrev w : ℕ
   w = (8 - p % 8) % 8
 
   -- "zero bits to the end of the byte"
-  pub padded_zero : {b : ℕ} → b ≡ number s p w → b ≡ 0 → At (p + w) ≡ end_of (padding s p)
+  pub padded_zero : {b : ℕ} → b ≡ number s p w → b ≡ 0 → Some (p + w) ≡ end_of (padding s p)
   unfolding padding
   padded_zero bit z = simp (eq-eqb (number s p w) 0 (sym bit ∙ z))
 
-  pub padded_one : {b : ℕ} → b ≡ number s p w → (b ≡ 0 → ⊥) → Lost ≡ end_of (padding s p)
+  pub padded_one : {b : ℕ} → b ≡ number s p w → (b ≡ 0 → ⊥) → None ≡ end_of (padding s p)
   unfolding padding
   padded_one bit z = simp (ne_eqb (number s p w) 0 (λ e. z (bit ∙ e)))
 
@@ -85,11 +70,14 @@ row_held n q xs before after w h =
     }
 
 -- a row: its contents, and zero bits to the end of a byte
-pub row_read : (n from : ℕ) (sheet : Sheet) (t : Table) (s : List ℕ) (before after : Contents) (p : ℕ) → ContentsHeld 0 n before after (contents (holds t) 0 sheet.columns s from) p
+pub row_read : (n from : ℕ) (sheet : Sheet) (t : Table) (s : List ℕ) (before after : Contents) (p : ℕ) {first : ℕ} → first ≡ 0 → ContentsHeld first n before after (contents (holds t) 0 sheet.columns s from) p
     → RowRead n before after (row sheet t s from) ((p + 7) / 8 * 8)
 unfolding row
-row_read n from sheet t s before after p h x q is = go (contents (holds t) 0 sheet.columns s from) refl is
+row_read n from sheet t s before after p {first} z k x q is = go (contents (holds t) 0 sheet.columns s from) refl is
   where
+    h : ContentsHeld 0 n before after (contents (holds t) 0 sheet.columns s from) p
+    h = subst (λ m. ContentsHeld m n before after (contents (holds t) 0 sheet.columns s from) p) z k
+
     padded : (xs : List Content) (o : ℕ) (y : Read (Unit {0})) → padding s o ≡ y → Filled 0 n xs before after → p ≡ o → on_read y (λ u e. found (λ c. get_or xs c Null) e) ≡ found x q
         → ((p + 7) / 8 * 8 ≡ q) × RowHeld n q x before after
     padded xs o (found u e) j f same k =
@@ -111,18 +99,21 @@ session_held n xs before after l h = record { keys = λ v k null. go v k null (d
     go v k null (yes d) = let z : 16 + (v - 16) ≡ v = omega arith in ap after (sym z) ∙ h.inside (v - 16) d
     go v k null (no d) = let e = h.size in h.beyond v (omega arith) ∙ null v k ∙ sym (get_or-eq_default xs Null (omega arith))
 
-module _ (n : ℕ) (small : n ≤ 8) (sheet : Sheet) (s : List ℕ) (before after : Contents) (r : Ended) (h : ContentsRead 16 n before after (contents (λ k. true) 0 sheet.keys s 0) r) where
+module _ (n : ℕ) (small : n ≤ 8) (sheet : Sheet) (s : List ℕ) (before after : Contents) (r : Option ℕ) {first : ℕ} (at : first ≡ 16) (read : ContentsRead first n before after (contents (λ k. true) 0 sheet.keys s 0) r) where
   abbrev keys : Read (List Content)
   keys = contents (λ k. true) 0 sheet.keys s 0
+
+  h : ContentsRead 16 n before after keys r
+  h = subst (λ m. ContentsRead m n before after keys r) at read
 
   abbrev then : List Content → ℕ → Read Contents
   then xs q = on_read (padding s q) (λ u o. on_read (nothing_more s o) (λ v end. found (λ k. get_or xs k Null) end))
 
-  pub session_lost : r ≡ Lost → SessionRead before after (read_session sheet s) false
+  pub session_lost : r ≡ None → SessionRead before after (read_session sheet s) false
   unfolding read_session
   session_lost e = let z = not_of keys (contents_end 16 n before after r keys h) e in subst (λ x. SessionRead before after (on_read x then) false) (sym z.1) refl
 
-  module _ {p : ℕ} {end : Ended} (e : r ≡ At p) (g : end ≡ end_of (padding s p)) where
+  module _ {p : ℕ} {end : Option ℕ} (e : r ≡ Some p) (g : end ≡ end_of (padding s p)) where
     -- what follows the contents
     after_keys : (b : Bool) → ((xs : List Content) → Filled 16 n xs before after → SessionRead before after (then xs p) b) → SessionRead before after (read_session sheet s) b
     unfolding read_session
@@ -130,12 +121,12 @@ module _ (n : ℕ) (small : n ≤ 8) (sheet : Sheet) (s : List ℕ) (before afte
         let z = at_of keys (contents_end 16 n before after r keys h) e in
         subst (λ x. SessionRead before after (on_read x then) b) (sym z.1) (next z.0 (contents_filled 16 n before after r keys z.1 h))
 
-    pub session_padded : end ≡ Lost → SessionRead before after (read_session sheet s) false
+    pub session_padded : end ≡ None → SessionRead before after (read_session sheet s) false
     session_padded i =
         let y = not_of (padding s p) g i in
         after_keys false (λ xs f. subst (λ x. SessionRead before after (on_read x (λ u o. on_read (nothing_more s o) (λ v end. found (λ k. get_or xs k Null) end))) false) (sym y.1) refl)
 
-    pub session_ends : {q : ℕ} → end ≡ At q → SessionRead before after (read_session sheet s) (leb (length s) (q / 8))
+    pub session_ends : {q : ℕ} → end ≡ Some q → SessionRead before after (read_session sheet s) (leb (length s) (q / 8))
     unfolding nothing_more
     session_ends {q} i =
         let y = at_of (padding s p) g i in
@@ -154,6 +145,6 @@ module _ (n : ℕ) (small : n ≤ 8) (sheet : Sheet) (s : List ℕ) (before afte
         go true xs f = (refl, session_held n xs before after small f)
         go false xs f = refl
 
-pub within_more : (from p m most top : ℕ) (r : Ended) → from ≤ p → m ≤ most → within p m top r → within from most top r
-within_more from p m most top (At q) l k h = let a = h.0 in let b = h.1 in (omega arith, omega arith, h.2)
-within_more from p m most top Lost l k h = tt
+pub within_more : (from p m most top : ℕ) (r : Option ℕ) → from ≤ p → m ≤ most → within p m top r → within from most top r
+within_more from p m most top (Some q) l k h = let a = h.0 in let b = h.1 in (omega arith, omega arith, h.2)
+within_more from p m most top None l k h = tt

@@ -1,48 +1,52 @@
 -- What the code's answers say of sessions and rows. (01, "The packed sheet")
-use Rattle.std.specs.Prelude.{ℕ, ◌+◌, ◌-◌, ◌%◌, ◌<◌, ◌≤◌, ◌≡◌, Bool, true, false, cond, List, length, get_or, eqb}
+use Rattle.std.specs.Prelude.{ℕ, ◌+◌, ◌-◌, ◌%◌, ◌<◌, ◌≤◌, ◌≡◌, Bool, true, false, cond, List, [], ◌∷◌, length, get_or, Option, Some, None}
 use Rattle.meaning.specs.declared.Content.{Content}
 use Rattle.meaning.specs.declared.Content.TheVariants.{Null, Value}
 use Rattle.meaning.specs.Values.{Kind, integer, kind_number, Contents}
 use Rattle.meaning.specs.Sheets.{member}
 use Rattle.meaning.specs.Reading.{Read, found, refused}
-use Rattle.rows.specs.declared.ContentRead.{ContentRead}
-use Rattle.rows.specs.declared.ContentRead.TheVariants.{Found, Lost}
-use Rattle.rows.specs.declared.Ended.{Ended}
-use Rattle.rows.specs.declared.Ended.TheVariants as ended
+use Rattle.rows.specs.declared.form.Form.{Form}
 
--- "It holds null or a value of its kind": what the variables hold, by their numbers, as it stands in two arrays; null past their end
-abbrev pub held : List ℕ → List ℕ → Contents
-held present values v = cond (eqb (get_or present v 0) 0) Null (Value (get_or values v 0))
+-- "It holds null or a value of its kind": what the variables hold, by their numbers; null past their end
+abbrev pub held : List Content → Contents
+held xs v = get_or xs v Null
 
--- the arrays have a place for each variable
-abbrev pub Cells : List ℕ → List ℕ → Type 0
-Cells present values = (length present ≡ 24) × (length values ≡ 24)
+-- the contents of variables that are there or not, with values
+abbrev pub cells : List Bool → List ℕ → List Content
+cells [] vs = []
+cells (p ∷ ps) [] = []
+cells (p ∷ ps) (v ∷ vs) = cond p (Value v) Null ∷ cells ps vs
+
+-- variable v holds x, and the others what they held
+pub record Sets (v : ℕ) (x : Content) (before after : Contents) : Type 0 where
+  pub at : after v ≡ x
+  pub others : (u : ℕ) → (u ≡ v → ⊥) → after u ≡ before u
 
 -- a content that the definitions read, as the code answers it: any refusal is 15
-abbrev pub content_found : Read Content → ContentRead
-content_found (found c q) = Found c q
-content_found (refused n) = Lost
+abbrev pub content_found : Read Content → Option (Content × ℕ)
+content_found (found c q) = Some (c, q)
+content_found (refused n) = None
 
 -- what is found at bit number p ends by bit number m, and by `top`
-abbrev pub ended_by : ℕ → ℕ → ℕ → ContentRead → Type 0
-ended_by p m top (Found c q) = (p ≤ q) × (q ≤ m) × (q ≤ top)
-ended_by p m top Lost = Unit {0}
+abbrev pub ended_by : ℕ → ℕ → ℕ → Option (Content × ℕ) → Type 0
+ended_by p m top (Some r) = (p ≤ r.1) × (r.1 ≤ m) × (r.1 ≤ top)
+ended_by p m top None = Unit {0}
 
 -- what starts at bit number p ends by bit number m, and by `top`
-abbrev pub within : ℕ → ℕ → ℕ → Ended → Type 0
-within p m top (ended.At q) = (p ≤ q) × (q ≤ m) × (q ≤ top)
-within p m top ended.Lost = Unit {0}
+abbrev pub within : ℕ → ℕ → ℕ → Option ℕ → Type 0
+within p m top (Some q) = (p ≤ q) × (q ≤ m) × (q ≤ top)
+within p m top None = Unit {0}
 
 -- where what the definitions read ends, as the code answers it
-abbrev pub end_of : {A : Type 0} → Read A → Ended
-end_of (found a q) = ended.At q
-end_of (refused n) = ended.Lost
+abbrev pub end_of : {A : Type 0} → Read A → Option ℕ
+end_of (found a q) = Some q
+end_of (refused n) = None
 
--- the numbers that code reads contents by: f says which of n variables are there, and their kinds are ks; they stand from variable `first` on
-pub record Fields (there first n : ℕ) (kinds : List ℕ) (f : ℕ → Bool) (ks : List Kind) : Type 0 where
-  pub count : length ks ≡ n
-  pub which : (c : ℕ) → c < n → f c ≡ member 16 there c
-  pub kind : (c : ℕ) → c < n → get_or kinds (first + c) 0 ≡ kind_number (get_or ks c integer)
+-- the form that code reads contents by: f says which of its n variables are there, and their kinds are ks; they stand from variable `first` on
+pub record Fields (form : Form) (f : ℕ → Bool) (ks : List Kind) : Type 0 where
+  pub count : length ks ≡ form.n
+  pub which : (c : ℕ) → c < form.n → f c ≡ member 16 form.there c
+  pub kind : (c : ℕ) → c < form.n → get_or form.kinds (form.first + c) 0 ≡ kind_number (get_or ks c integer)
 
 -- variables first, first + 1, .. hold xs, n of them, and the others hold what they held
 pub record Filled (first n : ℕ) (xs : List Content) (before after : Contents) : Type 0 where
@@ -52,9 +56,9 @@ pub record Filled (first n : ℕ) (xs : List Content) (before after : Contents) 
   pub beyond : (v : ℕ) → first + n ≤ v → after v ≡ before v
 
 -- what reading contents answers, and what the variables hold after it
-abbrev pub ContentsRead : ℕ → ℕ → Contents → Contents → Read (List Content) → Ended → Type 0
-ContentsRead first n before after (found xs q) r = (r ≡ ended.At q) × Filled first n xs before after
-ContentsRead first n before after (refused k) r = r ≡ ended.Lost
+abbrev pub ContentsRead : ℕ → ℕ → Contents → Contents → Read (List Content) → Option ℕ → Type 0
+ContentsRead first n before after (found xs q) r = (r ≡ Some q) × Filled first n xs before after
+ContentsRead first n before after (refused k) r = r ≡ None
 
 -- where contents that are of the form end, and what the variables hold after them; nothing is said of others
 abbrev pub ContentsHeld : (first n : ℕ) → Contents → Contents → Read (List Content) → ℕ → Type 0
@@ -71,9 +75,9 @@ abbrev pub RowRead : ℕ → Contents → Contents → Read Contents → ℕ →
 RowRead n before after m r = (x : Contents) (q : ℕ) → m ≡ found x q → (r ≡ q) × RowHeld n q x before after
 
 -- where a row ends: on a byte
-abbrev pub RowEnds : Read Contents → Ended → Type 0
-RowEnds (found x q) r = (r ≡ ended.At q) × (q % 8 ≡ 0)
-RowEnds (refused k) r = r ≡ ended.Lost
+abbrev pub RowEnds : Read Contents → Option ℕ → Type 0
+RowEnds (found x q) r = (r ≡ Some q) × (q % 8 ≡ 0)
+RowEnds (refused k) r = r ≡ None
 
 -- what reading a session answers, and what the variables hold after it: the session's keys, the columns as before
 pub record SessionHeld (key before after : Contents) : Type 0 where

@@ -1,11 +1,15 @@
-// Contents whose longest forms are wholly there: nothing is tested for the end.
+// Contents whose longest forms are wholly there: nothing is tested for the end. They are read here without being judged, or judged without being
+// held, and `contents_at` does both with a test of the end: three loops, since one for all costs a third more instructions a row
+// (docs/PERFORMANCE.md, "Listing").
 ghost use Rattle.std.specs.Prelude.{◌≡◌, ℕ, ◌+◌, ◌*◌, ◌/◌, ◌^◌, ◌≤◌, Bool, true, false, List, length};
+ghost use Rattle.meaning.specs.declared.Content.{Content};
 ghost use Rattle.meaning.specs.Values.{Kind, kind_number};
-ghost use Rattle.meaning.specs.Reading.{content, contents};
-ghost use Rattle.rows.specs.Held.{within, end_of, held, Cells, Fields, ContentsHeld};
+ghost use Rattle.meaning.specs.Reading.{found, content, contents};
+ghost use Rattle.rows.specs.Held.{within, end_of, held, Fields, ContentsHeld};
 
-use crate::{Ended, bit_at};
+use crate::{Form, Held, bit_at};
 use bits::within64;
+use meaning::Content;
 use values::{last_of, raw_of};
 
 // Are the longest contents of n columns surely there from bit number `from` on? By bytes, nine for each.
@@ -13,85 +17,64 @@ pub fn has_room(s: &[u8], from: usize, n: usize) -> bool
     requires { (from ≤ 2 ^ 31) × (n ≤ 16) }
     ensures { (result ≡ true → from + 65 * n ≤ length s.now * 8) × (result ≡ false → length s.now ≤ from / 8 + 9 * n) }
 {
-    if s.len() < from / 8 + 9 * n + 1 {
-        return false;
-    }
-    true
+    from / 8 + 9 * n < s.len()
 }
 
-// The contents of n variables from number `first` on, those that `there` names, at bit number `from`, which are of the form: the bit number
-// after them.
-pub fn contents_within(
-    s: &[u8],
-    from: usize,
-    there: u64,
-    first: usize,
-    n: usize,
-    kinds: &[u8; 24],
-    present: &mut [u8; 24],
-    values: &mut [u64; 24],
-) -> usize
-    requires { (from ≤ 2 ^ 31) × (from + 65 * n ≤ length s.now * 8) × (n ≤ 16) × (first + n ≤ 24) × Cells present.old values.old }
-    ensures { Cells present.new values.new × (from ≤ result) × (result ≤ from + 65 * n) × ((f : ℕ → Bool) (ks : List Kind) → Fields there first n kinds.now f ks → ContentsHeld first n (held present.old values.old) (held present.new values.new) (contents f 0 ks s.now from) result) }
+// A content of a kind at bit number p, which is of the form, with the bit number after it.
+fn content_within(s: &[u8], p: usize, kind: u8) -> (Content, usize)
+    requires { (p ≤ 2 ^ 32) × (p + 65 ≤ length s.now * 8) }
+    ensures { (p ≤ result.1) × (result.1 ≤ p + 65) × ((k : Kind) (x : Content) (q : ℕ) → kind_number k ≡ kind → content k s.now p ≡ found x q → (result.0 ≡ x) × (result.1 ≡ q)) }
+{
+    if bit_at(s, p) == 0 {
+        return (Content::Null, p + 1);
+    }
+    (Content::Value(raw_of(kind, within64(s, p + 1))), p + 65)
+}
+
+// The contents of a form at bit number `from`, which are there: the bit number after them.
+pub fn contents_within(s: &[u8], from: usize, form: &Form, vars: &mut Held) -> usize
+    requires { (from ≤ 2 ^ 31) × (from + 65 * form.now.n ≤ length s.now * 8) }
+    ensures { (from ≤ result) × (result ≤ from + 65 * form.now.n) × ((f : ℕ → Bool) (ks : List Kind) → Fields form.now f ks →
+        ContentsHeld form.now.first form.now.n (held vars.old) (held vars.new) (contents f 0 ks s.now from) result) }
 {
     let mut p = from;
-    let mut c: usize = 0;
-    while c < n {
-        let v = first + c;
-        if (there >> (15 - c)) % 2 == 1 {
-            if bit_at(s, p) == 0 {
-                present[v] = 0;
-                p += 1;
-                c += 1;
-                continue;
-            }
-            present[v] = 1;
-            values[v] = raw_of(kinds[v], within64(s, p + 1));
-            p += 65;
-            c += 1;
+    for c in 0..form.n {
+        let v = form.first + c;
+        if !form.is_there(c) {
+            vars.set(v, Content::Null);
             continue;
         }
-        present[v] = 0;
-        c += 1;
+        let (x, next) = content_within(s, p, form.kinds[v]);
+        vars.set(v, x);
+        p = next;
     }
     p
 }
 
-// Where the content of a kind at bit number p ends. Every 64 bits are an integer, so its bits are not looked at.
-fn content_end(s: &[u8], p: usize, kind: u8) -> Ended
-    requires { (p ≤ 2 ^ 32) × (p + 65 ≤ length s.now * 8) }
-    ensures { within p (p + 65) (length s.now * 8) result × ((k : Kind) → kind_number k ≡ kind → result ≡ end_of (content k s.now p)) }
+// Where the content of a kind at a bit number ends. Every 64 bits are an integer, so its bits are not looked at.
+fn content_end(s: &[u8], at: usize, kind: u8) -> Option<usize>
+    requires { (at ≤ 2 ^ 32) × (at + 65 ≤ length s.now * 8) }
+    ensures { within at (at + 65) (length s.now * 8) result × ((k : Kind) → kind_number k ≡ kind → result ≡ end_of (content k s.now at)) }
 {
-    if bit_at(s, p) == 0 {
-        return Ended::At(p + 1);
+    if bit_at(s, at) == 0 {
+        return Some(at + 1);
     }
-    if kind == 0 {
-        return Ended::At(p + 65);
+    if kind == 0 || raw_of(kind, within64(s, at + 1)) <= last_of(kind) {
+        return Some(at + 65);
     }
-    if raw_of(kind, within64(s, p + 1)) <= last_of(kind) {
-        return Ended::At(p + 65);
-    }
-    Ended::Lost
+    None
 }
 
-// Where the contents of n columns end, those that `there` names.
-pub fn contents_end(s: &[u8], from: usize, there: u64, n: usize, kinds: &[u8; 24]) -> Ended
-    requires { (from ≤ 2 ^ 31) × (from + 65 * n ≤ length s.now * 8) × (n ≤ 16) }
-    ensures { within from (from + 65 * n) (length s.now * 8) result × ((f : ℕ → Bool) (ks : List Kind) → Fields there 0 n kinds.now f ks → result ≡ end_of (contents f 0 ks s.now from)) }
+// Where the contents of a form end.
+pub fn contents_end(s: &[u8], from: usize, form: &Form) -> Option<usize>
+    requires { (from ≤ 2 ^ 31) × (from + 65 * form.now.n ≤ length s.now * 8) }
+    ensures { within from (from + 65 * form.now.n) (length s.now * 8) result × ((f : ℕ → Bool) (ks : List Kind) → Fields form.now f ks → result ≡ end_of (contents f 0 ks s.now from)) }
 {
     let mut p = from;
-    let mut c: usize = 0;
-    while c < n {
-        if (there >> (15 - c)) % 2 == 1 {
-            let got = content_end(s, p, kinds[c]);
-            let Ended::At(next) = got else {
-                return Ended::Lost;
-            };
-            p = next;
-            c += 1;
-            continue;
+    for c in 0..form.n {
+        if form.is_there(c) {
+            p = content_end(s, p, form.kinds[form.first + c])?;
         }
-        c += 1;
     }
-    Ended::At(p)
+    Some(p)
 }

@@ -3,64 +3,43 @@ ghost use Rattle.std.specs.Prelude.{◌≡◌, ℕ, ◌+◌, ◌*◌, ◌^◌, �
 ghost use Rattle.meaning.specs.Values.{Kind};
 ghost use Rattle.meaning.specs.Sheets.{Sheet, Table, holds};
 ghost use Rattle.meaning.specs.Reading.{contents, row, read_rows};
-ghost use Rattle.rows.specs.Held.{within, end_of, Cells, Fields, RowEnds, is_found};
+ghost use Rattle.rows.specs.Held.{within, end_of, Fields, RowEnds, is_found};
 
 use crate::inner::{contents_end, has_room};
-use crate::{Ended, contents_at, padded};
+use crate::{Form, Held, contents_at, padded};
 
-// Where the contents of the sheet's n columns end, those that `there` names: the fast way where it goes. What the arrays hold of columns is lost.
-fn columns_end(
-    s: &[u8],
-    from: usize,
-    there: u64,
-    n: usize,
-    kinds: &[u8; 24],
-    present: &mut [u8; 24],
-    values: &mut [u64; 24],
-) -> Ended
-    requires { (from ≤ 2 ^ 31) × (from ≤ length s.now * 8) × (n ≤ 16) × Cells present.old values.old }
-    ensures { Cells present.new values.new × within from (from + 65 * n) (length s.now * 8) result × ((f : ℕ → Bool) (ks : List Kind) → Fields there 0 n kinds.now f ks → result ≡ end_of (contents f 0 ks s.now from)) }
+// Where the contents of a form end: the fast way where it goes. What `vars` holds of them is lost.
+fn columns_end(s: &[u8], from: usize, form: &Form, vars: &mut Held) -> Option<usize>
+    requires { (from ≤ 2 ^ 31) × (from ≤ length s.now * 8) }
+    ensures { within from (from + 65 * form.now.n) (length s.now * 8) result × ((f : ℕ → Bool) (ks : List Kind) → Fields form.now f ks → result ≡ end_of (contents f 0 ks s.now from)) }
 {
-    if has_room(s, from, n) {
-        return contents_end(s, from, there, n, kinds);
+    if has_room(s, from, form.n) {
+        return contents_end(s, from, form);
     }
-    contents_at(s, from, there, 0, n, kinds, present, values)
+    contents_at(s, from, form, vars)
 }
 
 // Where the row at bit number `from` ends.
-fn row_end(
-    s: &[u8],
-    from: usize,
-    there: u64,
-    n: usize,
-    kinds: &[u8; 24],
-    present: &mut [u8; 24],
-    values: &mut [u64; 24],
-) -> Ended
-    requires { (from ≤ 2 ^ 31) × (from ≤ length s.now * 8) × (n ≤ 16) × Cells present.old values.old }
-    ensures { Cells present.new values.new × within from (from + 65 * n + 7) (length s.now * 8) result × ((sheet : Sheet) (t : Table) → Fields there 0 n kinds.now (holds t) sheet.columns → RowEnds (row sheet t s.now from) result) }
+fn row_end(s: &[u8], from: usize, form: &Form, vars: &mut Held) -> Option<usize>
+    requires { (from ≤ 2 ^ 31) × (from ≤ length s.now * 8) }
+    ensures { within from (from + 65 * form.now.n + 7) (length s.now * 8) result × ((sheet : Sheet) (t : Table) → Fields form.now (holds t) sheet.columns → RowEnds (row sheet t s.now from) result) }
 {
-    let end = columns_end(s, from, there, n, kinds, present, values);
-    let Ended::At(p) = end else {
-        return Ended::Lost;
-    };
+    let p = columns_end(s, from, form, vars)?;
     padded(s, p)
 }
 
 // A whole row list: is it of the form?
-pub fn are_rows(s: &[u8], there: u64, n: usize, kinds: &[u8; 24]) -> bool
-    requires { n ≤ 16 }
-    ensures { (result ≡ true → length s.now ≤ 65536) × ((sheet : Sheet) (t : Table) → Fields there 0 n kinds.now (holds t) sheet.columns → result ≡ is_found (read_rows sheet t s.now)) }
+pub fn are_rows(s: &[u8], form: &Form) -> bool
+    ensures { (result ≡ true → length s.now ≤ 65536) × ((sheet : Sheet) (t : Table) → Fields form.now (holds t) sheet.columns → result ≡ is_found (read_rows sheet t s.now)) }
 {
     if 65536 < s.len() {
         return false;
     }
-    let mut present = [0u8; 24];
-    let mut values = [0u64; 24];
-    let mut p: usize = 0;
+    let mut vars = Held::new();
+    let mut p = 0;
+    // no `for`: a row ends where its contents do
     while p / 8 < s.len() {
-        let end = row_end(s, p, there, n, kinds, &mut present, &mut values);
-        let Ended::At(q) = end else {
+        let Some(q) = row_end(s, p, form, &mut vars) else {
             return false;
         };
         if q <= p {

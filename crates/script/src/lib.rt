@@ -1,106 +1,139 @@
-// The words of a case file (crates/cases/data/README.md): words parted by one space, lines ended by a newline, bytes in hex, numbers in decimal. A file's
-// bytes come in with a place; a word's bounds, a number or bytes go out. Total: a file that is not of this form gives some words too.
+// The words of a case file (crates/cases/data/README.md): words parted by one space, lines ended by a newline, bytes in hex, numbers in decimal. A
+// text gives its lines, a line its words, and a word its number or bytes. Total: a text that is not of this form gives some words too.
 #![tactic(auto)]
 
-ghost use Rattle.std.specs.Prelude.{◌≡◌, ◌+◌, ◌≤◌, ◌<◌, min, length, get_or, drop};
-ghost use Rattle.std.proofs.Math.Seq.{slice};
+ghost use Rattle.std.specs.Prelude.{◌≡◌, ◌+◌, ◌<◌, length, get_or, take, drop, position};
 ghost use Rattle.std.specs.Counts.{IsPrefixLen};
-ghost use Rattle.script.specs.Words.{ends_word, word_length, line_length};
+ghost use Rattle.std.specs.Iterator.{at_most};
+ghost use Rattle.script.specs.Words.{ends_word, ends_line, word_length, line_length, Cuts};
 ghost use Rattle.script.specs.Spelt.{decimal_digit, hex_digit, decimal_of, hex_bytes, Filled};
 
-// A word stands from `from` up to `to`.
-#[derive(Clone, Copy)]
-pub struct Word {
-    pub from: usize,
-    pub to: usize,
+// The place of the first byte that ends a word.
+fn word_end(text: &[u8]) -> Option<usize>
+    ensures { result ≡ position ends_word text.now }
+{
+    text.iter().position(|b| *b == b' ' || *b == b'\n')
 }
 
-// Does a word end before this byte?
-fn parts(b: u8) -> bool
-    ensures { result ≡ ends_word b }
+// The place of the first byte that ends a line.
+fn line_end(text: &[u8]) -> Option<usize>
+    ensures { result ≡ position ends_line text.now }
 {
-    if b == 32 { true } else { b == 10 }
+    text.iter().position(|b| *b == b'\n')
 }
 
-// The word that starts at a place.
-pub fn word_at(s: &[u8], at: usize) -> Word
-    ensures inside { (result.from ≤ result.to) × (result.to ≤ length s.now) }
-    ensures whole { (result.from ≡ min at (length s.now)) × (result.to ≡ result.from + word_length (drop at s.now)) }
+// The word at the start of a text, and what stands behind it and the byte that parts it from the next.
+#[tactic(auto, using(crate::proofs::WordLaws::found, crate::proofs::WordLaws::found_none, std::proofs::lemmas::Grind::common_steps))]
+pub fn split_word(text: &[u8]) -> (&[u8], &[u8])
+    ensures word { result.0.now ≡ take (word_length text.now) text.now }
+    ensures rest { result.1.now ≡ drop (word_length text.now + 1) text.now }
 {
-    let all = s.len();
-    if all <= at {
-        return Word { from: all, to: all };
+    match word_end(text) {
+        Some(n) => (&text[..n], &text[n + 1..]),
+        None => (text, &[]),
     }
-    let mut to = at;
-    while to < all {
-        if parts(s[to]) {
-            return Word { from: at, to };
+}
+
+// The line at the start of a text, its newline too, and what stands behind it.
+#[tactic(auto, using(crate::proofs::WordLaws::found, crate::proofs::WordLaws::found_none, std::proofs::lemmas::Grind::common_steps))]
+pub fn split_line(text: &[u8]) -> (&[u8], &[u8])
+    ensures line { result.0.now ≡ take (line_length text.now) text.now }
+    ensures rest { result.1.now ≡ drop (line_length text.now) text.now }
+{
+    match line_end(text) {
+        Some(n) => text.split_at(n + 1),
+        None => (text, &[]),
+    }
+}
+
+// The words of a line.
+#[derive(Drop)]
+pub struct Words<'a> {
+    rest: &'a [u8],
+}
+
+impl<'a> Words<'a> {
+    pub fn new(line: &'a [u8]) -> Self
+        ensures { result.rest.now ≡ line.now }
+    {
+        Words { rest: line }
+    }
+}
+
+impl<'a> Iterator for Words<'a> {
+    type Item = &'a [u8];
+
+    ghost next_gives = { λ s r t. Cuts word_length 1 s.rest.now r t.rest.now };
+
+    ghost remaining = { λ s. at_most (length s.rest.now) };
+
+    fn next(&mut self) -> Option<&'a [u8]> {
+        if self.rest.is_empty() {
+            return None;
         }
-        to += 1;
-    }
-    Word { from: at, to }
-}
-
-// The place behind a word and the byte that parts it from the next.
-pub fn behind(w: Word) -> usize
-    ensures { result ≡ min (w.to + 1) 18446744073709551615 }
-{
-    let to = w.to;
-    if to < 18446744073709551615 {
-        to + 1
-    } else {
-        to
+        let (word, rest) = split_word(self.rest);
+        self.rest = rest;
+        Some(word)
     }
 }
 
-// The byte where a word starts, or 0 behind the text.
-pub fn first(s: &[u8], w: Word) -> u8
-    ensures { result ≡ get_or s.now w.from 0 }
-{
-    let from = w.from;
-    if from < s.len() { s[from] } else { 0 }
+// The lines of a text. (A twin of `Words`: one type for both would take a trait for how a part is cut and a type for each cut, which is no plainer.)
+#[derive(Drop)]
+pub struct Lines<'a> {
+    rest: &'a [u8],
 }
 
-// The place behind a line.
-pub fn next_line(s: &[u8], at: usize) -> usize
-    ensures { result ≡ at + line_length (drop at s.now) }
-{
-    let mut p = at;
-    while p < s.len() {
-        if s[p] == 10 {
-            return p + 1;
+impl<'a> Lines<'a> {
+    pub fn new(text: &'a [u8]) -> Self
+        ensures { result.rest.now ≡ text.now }
+    {
+        Lines { rest: text }
+    }
+}
+
+impl<'a> Iterator for Lines<'a> {
+    type Item = &'a [u8];
+
+    ghost next_gives = { λ s r t. Cuts line_length 0 s.rest.now r t.rest.now };
+
+    ghost remaining = { λ s. at_most (length s.rest.now) };
+
+    #[tactic(auto, using(crate::proofs::WordLaws::line_takes))]
+    fn next(&mut self) -> Option<&'a [u8]> {
+        if self.rest.is_empty() {
+            return None;
         }
-        p += 1;
+        let (line, rest) = split_line(self.rest);
+        self.rest = rest;
+        Some(line)
     }
-    p
+}
+
+// The byte where a text starts, or 0 behind it.
+pub fn first(text: &[u8]) -> u8
+    ensures { result ≡ get_or text.now 0 0 }
+{
+    text.first().copied().unwrap_or(0)
 }
 
 // The value of a decimal digit; any other byte counts as 0.
 fn digit(b: u8) -> u8
     ensures { (result ≡ decimal_digit b) × (result < 10) }
 {
-    if b < 48 {
-        return 0;
+    match b {
+        b'0'..=b'9' => b - b'0',
+        _ => 0,
     }
-    if 57 < b {
-        return 0;
-    }
-    b - 48
 }
 
 // The number that a word's digits spell; of more than seventeen, the last seventeen count.
-pub fn number(s: &[u8], w: Word) -> u64
-    ensures { result ≡ decimal_of (slice w.from w.to s.now) }
+#[tactic(auto, using(crate::proofs::SpeltLaws::number_ends, crate::proofs::SpeltLaws::number_adds))]
+pub fn number(word: &[u8]) -> u64
+    ensures { result ≡ decimal_of word.now }
 {
-    let to = w.to;
-    let mut p = w.from;
     let mut n: u64 = 0;
-    while p < to {
-        if s.len() <= p {
-            return n;
-        }
-        n = n % 10000000000000000 * 10 + digit(s[p]) as u64;
-        p += 1;
+    for b in word {
+        n = n % 10_000_000_000_000_000 * 10 + u64::from(digit(*b));
     }
     n
 }
@@ -109,39 +142,21 @@ pub fn number(s: &[u8], w: Word) -> u64
 fn hex_digit(b: u8) -> u8
     ensures { (result ≡ hex_digit b) × (result < 16) }
 {
-    if b < 97 {
-        return digit(b);
+    match b {
+        b'a'..=b'f' => b - b'a' + 10,
+        _ => digit(b),
     }
-    if 102 < b {
-        return 0;
-    }
-    b - 87
 }
 
 // The bytes that a word spells in hex, put at the start of `out` as far as there is room: how many there are. ("-" is none.)
-pub fn hex(s: &[u8], w: Word, out: &mut [u8]) -> usize
+#[tactic(auto, using(crate::proofs::SpeltLaws::hex_length, crate::proofs::SpeltLaws::hex_adds))]
+pub fn hex(word: &[u8], out: &mut [u8]) -> usize
     ensures counts { IsPrefixLen result out.new }
-    ensures bytes { Filled (hex_bytes (slice w.from w.to s.now)) out.old result out.new }
+    ensures bytes { Filled (hex_bytes word.now) out.old result out.new }
 {
-    let to = w.to;
-    let mut p = w.from;
-    let mut n = 0;
-    while n < out.len() {
-        if to <= p {
-            return n;
-        }
-        if to - p < 2 {
-            return n;
-        }
-        if s.len() < 2 {
-            return n;
-        }
-        if s.len() - 2 < p {
-            return n;
-        }
-        out[n] = hex_digit(s[p]) * 16 + hex_digit(s[p + 1]);
-        p += 2;
-        n += 1;
+    let n = out.len().min(word.len() / 2);
+    for i in 0..n {
+        out[i] = hex_digit(word[2 * i]) * 16 + hex_digit(word[2 * i + 1]);
     }
     n
 }

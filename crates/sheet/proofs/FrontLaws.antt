@@ -2,39 +2,44 @@
 use Prim.Native.Nat.{ℕ, zero, suc, ◌+◌, ◌*◌, ◌^◌, ◌<◌, ◌≤◌}
 use native.Mathlib.Omega.{arith}
 use native.Mathlib.Decide.{ℕ_discrete}
-use mathlib.Core.Path.{◌≡◌, refl, sym, ap, ◌∙◌}
+use mathlib.Core.Path.{◌≡◌, refl, sym, ap, subst, ◌∙◌}
 use mathlib.Core.Bool.{true, false}
 use mathlib.Core.List.{List, [], ◌∷◌, ◌++◌}
 use lib.ListN.{length, get_or, set, length-append, length-set, get_or-append}
 use lib.Seq.{get_or-set_same, get_or-set_other, get_or-append-add}
 use borrow.Author.Tests.{lt-ltb, le-ltb}
+use Rattle.std.specs.Prelude.{Result, Ok}
+use Rattle.std.specs.Result.{IsErrAnd}
+use Rattle.std.proofs.lemmas.Result.{err_from_is_err_and}
+use Rattle.refusals.specs.declared.Refusal.{Refusal}
+use Rattle.refusals.specs.Refusals.{number}
 use Rattle.bits.specs.Fields.{bit_no, field_at}
 use Rattle.bits.specs.declared.Place.{Place}
-use Rattle.bits.specs.declared.Field.{Field}
-use Rattle.bits.specs.declared.Field.TheVariants.{Value}
 use Rattle.bits.proofs.Laws.{number_lt, field_is}
 use Rattle.meaning.specs.Values.{Kind, integer, token, boolean, kind_number}
 use Rattle.meaning.specs.Sheets.{Table}
 use Rattle.meaning.specs.Allowed.{held_below}
-use Rattle.meaning.specs.Reading.{Read, found, refused, field, kind, table}
+use Rattle.meaning.specs.Reading.{Read, refused, field, kind, table}
+use Rattle.values.specs.Reads.{Got}
 use Rattle.sheet.specs.Directory.{table_in}
-use Rattle.clauses.specs.Ends.{numbered}
-use Rattle.sheet.specs.Fronts.{KindsPut, TablesIn}
+use Rattle.sheet.specs.Fronts.{Ends, KindsPut, TablesIn}
 
--- kinds, by their numbers
+-- a kind, by its number
 module _ (s : List ℕ) (p : ℕ) where
-  pub kind_lost : {n : ℕ} → field 2 s p ≡ refused n → numbered (kind s p) ≡ refused n
+  pub kind_lost : {n : ℕ} → field 2 s p ≡ refused n → kind s p ≡ refused n
   unfolding kind
   kind_lost e = simp e
 
-  module _ {k o : ℕ} (e : field 2 s p ≡ found k o) where
-    pub kind_high : 2 < k → numbered (kind s p) ≡ refused 5
+  module _ {v : ℕ} {q : Place} (g : Got (field 2 s p) (λ x. v ≡ x) q) where
+    pub kind_high : 2 < v → kind s p ≡ refused 5
     unfolding kind
-    kind_high h = simp (e, le-ltb k 3 h)
+    kind_high h = let l : 2 < g.item = omega (arith, g.holds) in simp (g.read, le-ltb g.item 3 l)
 
-    pub kind_low : k ≤ 2 → numbered (kind s p) ≡ found k o
+    pub kind_got : v ≤ 2 → Got (kind s p) (λ k. v ≡ kind_number k) q
     unfolding kind
-    kind_low h = let l : k < 3 = omega arith in simp (e, lt-ltb k 3 l) (ap (λ x. found x o) (go k h))
+    kind_got h =
+        let l : g.item ≤ 2 = omega (arith, g.holds) in
+        record { item = _; place = g.place; read = simp (g.read, lt-ltb g.item 3 (omega arith)); here = g.here; holds = g.holds ∙ sym (go g.item l) }
       where
         go : (k : ℕ) → k ≤ 2 → kind_number (get_or (integer ∷ token ∷ boolean ∷ []) k integer) ≡ k
         go zero h = refl
@@ -42,19 +47,8 @@ module _ (s : List ℕ) (p : ℕ) where
         go (suc (suc zero)) h = refl
         go (suc (suc (suc k))) h = absurd (omega arith)
 
-pub numbered_found : {X : Type 0} {v o : ℕ} (r : Read Kind) → numbered r ≡ found v o → ((k : Kind) → r ≡ found k o → kind_number k ≡ v → X) → X
-numbered_found {X} {v} {o} (found k q) e next = let same : kind_number k ≡ v = cc in let place : q ≡ o = cc in next k (ap (found k) place) same
-numbered_found (refused n) e next = let z : ◌≡◌ {A = ℕ} 0 1 = cc in absurd (omega arith)
-
-pub numbered_refused : {n : ℕ} (r : Read Kind) → numbered r ≡ refused n → r ≡ refused n
-numbered_refused {n} (found k q) e = let z : ◌≡◌ {A = ℕ} 0 1 = cc in absurd (omega arith)
-numbered_refused {n} (refused m) e = let same : m ≡ n = cc in ap refused same
-
--- no kind is put yet, and one more
-pub kinds_none : (from : ℕ) (given : List ℕ) → KindsPut from given given []
-kinds_none from given = record { before = λ j h. refl; here = λ j h. absurd (omega arith); after = λ j h. refl }
-
-pub kinds_more : (from : ℕ) (given kinds : List ℕ) (ks : List Kind) (i : ℕ) (k : Kind) (v : ℕ) → KindsPut from given kinds ks → length ks ≡ i → from + i < length kinds → kind_number k ≡ v
+-- one kind more is put
+pub kinds_more : (from : ℕ) (given kinds : List ℕ) (ks : List Kind) (i : ℕ) (k : Kind) (v : ℕ) → KindsPut from given kinds ks → length ks ≡ i → from + i < length kinds → v ≡ kind_number k
     → KindsPut from given (set kinds (from + i) v) (ks ++ (k ∷ []))
 kinds_more from given kinds ks i k v P l room e = record { before = before; here = here; after = after }
   where
@@ -67,7 +61,7 @@ kinds_more from given kinds ks i k v P l room e = record { before = before; here
         go : Dec (j ≡ i) → get_or (set kinds (from + i) v) (from + j) 0 ≡ kind_number (get_or (ks ++ (k ∷ [])) j integer)
         go (yes x) =
             let z : j ≡ length ks + 0 = omega arith in
-            ap (λ y. get_or (set kinds (from + i) v) (from + y) 0) x ∙ get_or-set_same kinds (from + i) v 0 room ∙ sym e ∙ ap kind_number (sym (ap (λ y. get_or (ks ++ (k ∷ [])) y integer) z ∙ get_or-append-add ks (k ∷ []) 0 integer))
+            ap (λ y. get_or (set kinds (from + i) v) (from + y) 0) x ∙ get_or-set_same kinds (from + i) v 0 room ∙ e ∙ ap kind_number (sym (ap (λ y. get_or (ks ++ (k ∷ [])) y integer) z ∙ get_or-append-add ks (k ∷ []) 0 integer))
         go (no x) =
             let small : j < length ks = omega (arith, length-append ks (k ∷ [])) in
             get_or-set_other kinds (from + i) (from + j) v 0 (λ y. x (omega arith)) ∙ P.here j small ∙ ap kind_number (sym (get_or-append ks (k ∷ []) integer j small))
@@ -83,32 +77,39 @@ module _ (c : ℕ) (s : List ℕ) (p : ℕ) where
   unfolding table
   schema_lost e = simp e
 
-  module _ {x a : ℕ} (X : field 6 s p ≡ found x a) where
-    pub tags_lost : {n : ℕ} → field 8 s a ≡ refused n → table c s p ≡ refused n
+  module _ {x : ℕ} {q : Place} (X : Got (field 6 s p) (λ n. x ≡ n) q) where
+    pub tags_lost : {n : ℕ} → field 8 s X.place ≡ refused n → table c s p ≡ refused n
     unfolding table
-    tags_lost e = simp (X, e)
+    tags_lost e = simp (X.read, e)
 
-    module _ {g b : ℕ} (G : field 8 s a ≡ found g b) where
-      pub held_lost : {n : ℕ} → field 16 s b ≡ refused n → table c s p ≡ refused n
+    module _ {g : ℕ} {r : Place} (G : Got (field 8 s X.place) (λ n. g ≡ n) r) where
+      pub held_lost : {n : ℕ} → field 16 s G.place ≡ refused n → table c s p ≡ refused n
       unfolding table
-      held_lost e = simp (X, G, e)
+      held_lost e = simp (X.read, G.read, e)
 
-      module _ {h o : ℕ} (H : field 16 s b ≡ found h o) where
-        pub table_found : held_below c h ≡ true → table c s p ≡ found (record { schema = x; tags = g; columns = h }) o
+      module _ {h : ℕ} {o : Place} (H : Got (field 16 s G.place) (λ n. h ≡ n) o) where
+        pub table_got : held_below c h ≡ true → Got (table c s p) (λ t. record { schema = x; tags = g; columns = h } ≡ t) o
         unfolding table
-        table_found e = simp (X, G, H) (rw e)
+        table_got e =
+            record {
+              item = record { schema = x; tags = g; columns = h };
+              place = H.place;
+              read = simp (X.read, G.read, H.read) (rw (← X.holds, ← G.holds, ← H.holds, e));
+              here = H.here;
+              holds = refl;
+            }
 
         pub table_high : held_below c h ≡ false → table c s p ≡ refused 6
         unfolding table
-        table_high e = simp (X, G, H) (rw e)
+        table_high e = simp (X.read, G.read, H.read) (rw (← H.holds, e))
 
 -- a field that is read at a place is below 2^w
-pub field_low : (s : List ℕ) (at : Place) (w : ℕ) {f : Field} {v : ℕ} {q : Place} → f ≡ field_at s at w → f ≡ Value v q → v < 2 ^ w
-field_low s at w {f} {v} {q} e h = omega (arith, (field_is s at q w v (sym e ∙ h)).0, number_lt s (bit_no at) w)
+pub field_low : (s : List ℕ) (at : Place) (w : ℕ) {v : ℕ} {q : Place} → Ok (v, q) ≡ field_at s at w → v < 2 ^ w
+field_low s at w {v} {q} e = omega (arith, (field_is s at q w v (sym e)).0, number_lt s (bit_no at) w)
 
--- no table stands in a book yet
-pub tables_none : (b : List ℕ) → TablesIn b []
-tables_none b t h = absurd (omega arith)
+-- a refusal that is handed on where the answer is a place alone
+pub ends_handed : {A : Type 0} {m : Read A} (H : A → Type 0) (r : Result Place Refusal) (e : Refusal) → IsErrAnd r (λ x. x ≡ e) → m ≡ refused (number e) → Ends m H r
+ends_handed {A} {m} H r e i h = let p = err_from_is_err_and r i in subst (Ends m H) (sym p.1) (h ∙ ap (λ x. refused (number x)) (sym p.2))
 
 -- what stands past the last table
 abbrev none : Table

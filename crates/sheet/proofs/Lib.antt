@@ -6,3 +6,4 @@ pub mod PolicyLaws
 pub mod ServeLaws
 pub mod WholeLaws
 pub mod UserLaws
+pub mod AcceptedLaws

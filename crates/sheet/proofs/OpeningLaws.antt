@@ -9,28 +9,29 @@ use Rattle.meaning.specs.Values.{Kind, integer, kind_number}
 use Rattle.meaning.specs.Sheets as sheets
 use Rattle.meaning.specs.Reading.{found, refused, on_read, kind, table, table_facts, times}
 use Rattle.meaning.specs.Reading as m
-use Rattle.sheet.specs.Fronts.{CountsAre, KindsPut, TablesIn, FrontIs}
-use Rattle.sheet.specs.declared.Counts.{Counts}
+use Rattle.place.specs.Heads.{CountsAre}
+use Rattle.place.specs.declared.Counts.{Counts}
+use Rattle.sheet.specs.Fronts.{KindsPut, TablesIn, FrontIs}
 
 -- counts by value are the definition's
 pub counts_same : {r : Counts} {n : m.Counts} → CountsAre r n → n ≡ record { columns = r.columns; keys = r.keys; tables = r.tables; policies = r.policies }
 counts_same N = λ i. record { columns = sym N.columns i; keys = sym N.keys i; tables = sym N.tables i; policies = sym N.policies i }
 
 -- what is read, in order
-module _ (n : m.Counts) (s : List ℕ) (p : ℕ) where
-  pub columns_stop : {x : ℕ} → times n.columns kind s p ≡ refused x → table_facts n s p ≡ refused x
+module _ {r : Counts} {n : m.Counts} (N : CountsAre r n) (s : List ℕ) (p : ℕ) where
+  pub columns_stop : {x : ℕ} → times r.columns kind s p ≡ refused x → table_facts n s p ≡ refused x
   unfolding table_facts
-  columns_stop e = simp e
+  columns_stop e = ap (λ x. table_facts x s p) (counts_same N) ∙ simp e
 
-  module _ {cs : List Kind} {a : ℕ} (C : times n.columns kind s p ≡ found cs a) where
-    pub keys_stop : {x : ℕ} → times n.keys kind s a ≡ refused x → table_facts n s p ≡ refused x
+  module _ {cs : List Kind} {a : ℕ} (C : times r.columns kind s p ≡ found cs a) where
+    pub keys_stop : {x : ℕ} → times r.keys kind s a ≡ refused x → table_facts n s p ≡ refused x
     unfolding table_facts
-    keys_stop e = simp (C, e)
+    keys_stop e = ap (λ x. table_facts x s p) (counts_same N) ∙ simp (C, e)
 
-    pub front_of : {ks : List Kind} {b : ℕ} → times n.keys kind s a ≡ found ks b
-        → table_facts n s p ≡ on_read (times n.tables (table n.columns) s b) (λ ts o. found (record { columns = cs; keys = ks; tables = ts; policies = [] }) o)
+    pub front_of : {ks : List Kind} {b : ℕ} → times r.keys kind s a ≡ found ks b
+        → table_facts n s p ≡ on_read (times r.tables (table r.columns) s b) (λ ts o. found (record { columns = cs; keys = ks; tables = ts; policies = [] }) o)
     unfolding table_facts
-    front_of e = simp (C, e)
+    front_of e = ap (λ x. table_facts x s p) (counts_same N) ∙ simp (C, e)
 
 zeros : (n j : ℕ) → ◌≡◌ {A = ℕ} (get_or (replicate n 0) j 0) 0
 zeros zero j = refl

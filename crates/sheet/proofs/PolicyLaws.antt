@@ -1,5 +1,5 @@
 -- Policies: what is read for each, and where its selector and clauses stand.
-use Prim.Native.Nat.{ℕ, ◌+◌, ◌*◌, ◌/◌, ◌%◌, ◌<◌, ◌≤◌}
+use Prim.Native.Nat.{ℕ, ◌+◌, ◌*◌, ◌/◌, ◌%◌, ◌^◌, ◌<◌, ◌≤◌}
 use native.Mathlib.Omega.{arith}
 use native.Mathlib.Decide.{ℕ_discrete}
 use mathlib.Core.Path.{◌≡◌, refl, sym, ap, ◌∙◌, subst}
@@ -10,16 +10,27 @@ use lib.Seq.{get_or-set_same, get_or-set_other, get_or-append-add}
 use lib.Dec.{leb, eqb}
 use borrow.Author.Tests.{lt-ltb, le-ltb, leb-true}
 use Rattle.bits.specs.Bits.{number}
-use Rattle.bits.specs.Fields.{place_at}
+use Rattle.std.specs.Prelude.{Ok}
+use Rattle.bits.specs.Fields.{place_at, bit_no, field_at}
+use Rattle.bits.proofs.Laws.{number_lt, field_is}
 use Rattle.bits.specs.declared.Place.{Place}
 use Rattle.meaning.specs.Atoms.{Atom}
 use Rattle.meaning.specs.Sheets.{Sheet, Selector, all}
 use Rattle.meaning.specs.Sheets as sheets
-use Rattle.meaning.specs.Reading.{found, refused, on_read, field, count, selector, selector_node, clause, policy, times}
+use Rattle.meaning.specs.Reading.{Read, found, refused, on_read, field, count, selector, selector_node, clause, policy, times}
 use Rattle.meaning.proofs.ReadLaws.{read_split}
+use Rattle.values.specs.Reads.{Got}
 use Rattle.clauses.specs.declared.Facts.{Facts}
 use Rattle.sheet.specs.Directory.{table_in, PolicyAt}
 use Rattle.sheet.specs.Fronts.{FrontIs, KeptBelow, StartsAt, PoliciesIn}
+
+-- what was found, by the value that was answered
+pub as_found : {m : Read ℕ} {v : ℕ} {q : Place} (g : Got m (λ x. v ≡ x) q) → m ≡ found v g.place
+as_found g = g.read ∙ ap (λ x. found x g.place) (sym g.holds)
+
+-- a field that is read at a place is below 2^w
+pub field_low : (s : List ℕ) (at : Place) (w : ℕ) {v : ℕ} {q : Place} → Ok (v, q) ≡ field_at s at w → v < 2 ^ w
+field_low s at w {v} {q} e = omega (arith, (field_is s at q w v (sym e)).0, number_lt s (bit_no at) w)
 
 -- what is found begins within the bytes
 field_inside : (w : ℕ) (s : List ℕ) (p v o : ℕ) → field w s p ≡ found v o → p ≤ length s * 8

@@ -4,7 +4,7 @@ use native.Mathlib.Omega.{arith}
 use native.Mathlib.Decide.{dec_lt}
 use native.Mathlib.Nat.{add-zero}
 use native.Mathlib.Numerals.{add-one}
-use mathlib.Core.Path.{◌≡◌, refl, sym, ap, ◌∙◌}
+use mathlib.Core.Path.{◌≡◌, refl, sym, ap, subst, ◌∙◌}
 use mathlib.Core.Bool.{Bool, true, false, cond, ◌&&◌}
 use mathlib.Core.List.{List, ◌∷◌}
 use lib.ListN.{length, get_or, drop, drop_of_length-le}
@@ -115,7 +115,7 @@ module _ (facts : Sheet) (x : sheets.Selector) where
   shared_none p e = every_true (every (atom_held 65535)) (every_true (atom_held 65535) λ a. every_true (column_held 65535) every_column (a.variable ∷ second a.operator)) p.clauses
 
   module _ (t columns : ℕ) (h : Shared facts x t columns) {matched : Bool} (e : matched ≡ matches t (table_at facts t) x) where
-    pub shared_matched : (more : ℕ) → matched ≡ true → more ≡ (table_at facts t).columns → Shared facts x (t + 1) (bit_and columns more)
+    shared_matched : (more : ℕ) → matched ≡ true → more ≡ (table_at facts t).columns → Shared facts x (t + 1) (bit_and columns more)
     shared_matched more i g p s =
         clauses_both columns more p.clauses
         ∙ every_more (table_serves facts p) (numbers_from 0 t) t (h p s) (
@@ -123,7 +123,7 @@ module _ (facts : Sheet) (x : sheets.Selector) where
         ap (λ z. every (every (atom_held z)) p.clauses) g ∙ sym (ap (λ b. cond b (columns_held (table_at facts t) p) true) k))
         ∙ sym (ap (every (table_serves facts p)) (numbers_more t))
 
-    pub shared_unmatched : matched ≡ false → Shared facts x (t + 1) columns
+    shared_unmatched : matched ≡ false → Shared facts x (t + 1) columns
     shared_unmatched i p s =
         and_true (every (every (atom_held columns)) p.clauses)
         ∙ every_more (table_serves facts p) (numbers_from 0 t) t (h p s) (
@@ -134,3 +134,10 @@ module _ (facts : Sheet) (x : sheets.Selector) where
         and_true : (b : Bool) → b ≡ (b && true)
         and_true true = refl
         and_true false = refl
+
+    pub shared_more : {more next : ℕ} → more ≡ (table_at facts t).columns → next ≡ cond matched (bit_and columns more) columns → Shared facts x (t + 1) next
+    shared_more {more} {next} g n = go matched refl
+      where
+        go : (b : Bool) → matched ≡ b → Shared facts x (t + 1) next
+        go true i = subst (Shared facts x (t + 1)) (sym (n ∙ ap (λ b. cond b (bit_and columns more) columns) i)) (shared_matched more i g)
+        go false i = subst (Shared facts x (t + 1)) (sym (n ∙ ap (λ b. cond b (bit_and columns more) columns) i)) (shared_unmatched i)

@@ -3,22 +3,23 @@ use Prim.Native.Nat.{ℕ, ◌≤◌}
 use native.Mathlib.Omega.{arith}
 use mathlib.Core.Path.{◌≡◌, subst}
 use mathlib.Core.List.{List}
+use Rattle.std.specs.Prelude.{Result, Ok, Err}
+use Rattle.refusals.specs.declared.Refusal.{Refusal}
+use Rattle.refusals.specs.Refusals.{number}
 use Rattle.meaning.specs.Reading.{refused, read_sheet}
 use Rattle.meaning.specs.Allowed.{SheetAllowed}
 use Rattle.meaning.specs.Demands.{Accepted}
 use Rattle.meaning.proofs.SheetLaws.{accepted_as}
 use Rattle.sheet.specs.declared.Directory.{Directory}
-use Rattle.sheet.specs.declared.Outcome.{Outcome}
-use Rattle.sheet.specs.declared.Outcome.TheVariants as outcome
-use Rattle.sheet.specs.Directory.{Found, Outcomes}
+use Rattle.sheet.specs.Directory.{Found, SheetRead}
 
 -- an accepted answer, and a refused one
-module _ (s : List ℕ) (d : Directory) (b : List ℕ) {o : Outcome} (r : Outcomes s d b o) where
-  pub read_found : o ≡ outcome.Accepted → Found s d b
-  read_found e = subst (Outcomes s d b) e r
+module _ (s b : List ℕ) {r : Result Directory Refusal} (h : SheetRead s b r) where
+  pub read_found : {d : Directory} → r ≡ Ok d → Found s d b
+  read_found e = subst (SheetRead s b) e h
 
-  pub read_refused : {n : ℕ} → o ≡ outcome.Refused n → read_sheet s ≡ refused n
-  read_refused e = subst (Outcomes s d b) e r
+  pub read_refused : {x : Refusal} → r ≡ Err x → read_sheet s ≡ refused (number x)
+  read_refused e = subst (SheetRead s b) e h
 
 -- what is found is accepted and allowed
 module _ {s : List ℕ} {d : Directory} {b : List ℕ} (F : Found s d b) where

@@ -9,19 +9,19 @@ use lib.ListN.{length, get_or, get_or-eq_default}
 use lib.Dec.{leb, eqb}
 use borrow.Author.Tests.{le-leb, lt-leb, eq-eqb}
 use Rattle.lists.specs.Lists.{every}
+use Rattle.std.specs.Prelude.{Result}
+use Rattle.std.specs.Result.{IsErrAnd}
+use Rattle.std.proofs.lemmas.Result.{err_from_is_err_and}
+use Rattle.refusals.specs.declared.Refusal.{Refusal}
+use Rattle.refusals.specs.Refusals as refusals
 use Rattle.bits.specs.Bits.{bit_at, number}
-use Rattle.bits.specs.declared.Place.{Place}
 use Rattle.meaning.specs.Sheets.{Sheet, tables_serve}
 use Rattle.meaning.specs.Sheets as sheets
 use Rattle.meaning.specs.Reading.{Read, found, refused, on_read, counts, table_facts, policy, padding, nothing_more, sheet_fields, read_sheet, times}
 use Rattle.meaning.specs.Reading as m
 use Rattle.clauses.specs.declared.Facts.{Facts}
-use Rattle.clauses.specs.declared.End.{End}
-use Rattle.clauses.specs.declared.End.TheVariants as end
-use Rattle.sheet.specs.declared.Outcome.{Outcome}
-use Rattle.sheet.specs.declared.Outcome.TheVariants as outcome
 use Rattle.sheet.specs.declared.Directory.{Directory}
-use Rattle.sheet.specs.Directory.{PolicyAt, Described, Outcomes}
+use Rattle.sheet.specs.Directory.{PolicyAt, Described, SheetRead}
 use Rattle.sheet.specs.Fronts.{FrontIs, KeptBelow, PoliciesIn, policy_serves, Closes}
 use Rattle.sheet.proofs.PolicyLaws.{table_kept}
 
@@ -145,16 +145,9 @@ module _ (s : List ℕ) where
       unfolding read_sheet
       sheet_unserved t = simp (le-leb (length s) 16384 short, e, t)
 
--- a refusal by its number
-pub refused_same : {w : End} {k n : ℕ} → w ≡ end.Refused k → w ≡ end.Refused n → outcome.Refused k ≡ outcome.Refused n
-refused_same {w} {k} {n} e h = let same : k ≡ n = cc in ap outcome.Refused same
-
-pub refused_never : {X : Type 0} {w : End} {q : Place} {n : ℕ} → w ≡ end.At q → w ≡ end.Refused n → X
-refused_never e h = let z : ◌≡◌ {A = ℕ} 0 1 = cc in absurd (omega arith)
-
--- a refusal by its outcome
-pub sheet_refused : (s : List ℕ) (d : Directory) (b : List ℕ) (o : Outcome) {n : ℕ} → o ≡ outcome.Refused n → read_sheet s ≡ refused n → Outcomes s d b o
-sheet_refused s d b o e h = subst (Outcomes s d b) (sym e) h
+-- a refusal that is handed on
+pub sheet_stops : (s b : List ℕ) (r : Result Directory Refusal) (e : Refusal) → IsErrAnd r (λ x. x ≡ e) → read_sheet s ≡ refused (refusals.number e) → SheetRead s b r
+sheet_stops s b r e i h = let p = err_from_is_err_and r i in subst (SheetRead s b) (sym p.1) (h ∙ ap (λ x. refused (refusals.number x)) (sym p.2))
 
 -- whether the tables serve, told of the facts that stand before the policies
 pub served_so : (facts : Sheet) (ps : List sheets.Policy) {r : Bool} → r ≡ every (policy_serves facts) ps → r ≡ tables_serve (wholly facts ps)

@@ -1,15 +1,14 @@
 -- A directory with its book, and the sheet that they describe.
-use Rattle.std.specs.Prelude.{ℕ, ◌+◌, ◌*◌, ◌<◌, ◌≤◌, ◌≡◌, List, [], length, get_or, eqb}
+use Rattle.std.specs.Prelude.{ℕ, ◌+◌, ◌*◌, ◌<◌, ◌≤◌, ◌≡◌, List, [], length, get_or, eqb, Result, Ok, Err}
 use Rattle.meaning.specs.Sheets as m
 use Rattle.meaning.specs.Sheets.{Sheet, table_at, policy_at}
 use Rattle.meaning.specs.Reading.{found, refused, selector, clause, read_sheet}
 use Rattle.meaning.specs.Allowed.{facts_of}
+use Rattle.refusals.specs.declared.Refusal.{Refusal}
+use Rattle.refusals.specs.Refusals.{number}
 use Rattle.clauses.specs.Facts.{FactsAre}
 use Rattle.sheet.specs.declared.Table.{Table}
 use Rattle.sheet.specs.declared.Directory.{Directory}
-use Rattle.sheet.specs.declared.Reading.{Reading}
-use Rattle.sheet.specs.declared.Outcome.{Outcome}
-use Rattle.sheet.specs.declared.Outcome.TheVariants.{Accepted, Refused}
 
 -- a table's facts by value
 abbrev pub table_of : Table → m.Table
@@ -47,10 +46,7 @@ pub record Found (s : List ℕ) (d : Directory) (b : List ℕ) : Type 0 where
   pub read : read_sheet s ≡ found sheet end
   pub described : Described s sheet d b
 
--- what reading the bytes s answers
-abbrev pub Outcomes : List ℕ → Directory → List ℕ → Outcome → Type 0
-Outcomes s d b Accepted = Found s d b
-Outcomes s d b (Refused n) = read_sheet s ≡ refused n
-
-abbrev pub SheetRead : List ℕ → List ℕ → Reading → Type 0
-SheetRead s b r = Outcomes s r.directory b r.outcome
+-- what reading the bytes s answers: an accepted sheet's directory, or a refusal
+abbrev pub SheetRead : List ℕ → List ℕ → Result Directory Refusal → Type 0
+SheetRead s b (Ok d) = Found s d b
+SheetRead s b (Err e) = read_sheet s ≡ refused (number e)

@@ -1,31 +1,24 @@
 -- The front of a sheet by value: its counts and its kinds.
-use Rattle.std.specs.Prelude.{ℕ, ◌+◌, ◌-◌, ◌*◌, ◌%◌, ◌<◌, ◌≤◌, ◌≡◌, Bool, true, false, cond, List, [], length, get_or}
+use Rattle.std.specs.Prelude.{ℕ, ◌+◌, ◌-◌, ◌*◌, ◌%◌, ◌<◌, ◌≤◌, ◌≡◌, Bool, true, false, cond, List, [], length, get_or, Result, Ok, Err}
 use Rattle.meaning.specs.Values.{Kind, integer, kind_number}
-use Rattle.meaning.specs.Reading as m
-use Rattle.meaning.specs.Reading.{found, refused, on_read, clause, padding, nothing_more}
+use Rattle.meaning.specs.Reading.{Read, found, refused, on_read, clause, padding, nothing_more}
 use Rattle.meaning.specs.Atoms.{Atom}
 use Rattle.meaning.specs.Sheets as sheets
 use Rattle.meaning.specs.Sheets.{Sheet, Selector, matches, all, table_at, columns_held}
 use Rattle.meaning.specs.Allowed.{facts_of}
 use Rattle.lists.specs.Lists.{numbers_from, every}
+use Rattle.refusals.specs.declared.Refusal.{Refusal}
+use Rattle.refusals.specs.Refusals.{number}
+use Rattle.bits.specs.declared.Place.{Place}
+use Rattle.values.specs.Reads.{Got}
 use Rattle.clauses.specs.declared.Facts.{Facts}
 use Rattle.clauses.specs.Facts.{FactsAre, atom_held}
 use Rattle.sheet.specs.Directory.{table_in, PolicyAt}
-use Rattle.sheet.specs.declared.Counts.{Counts}
 
--- the counts that the definitions read
-pub record CountsAre (r : Counts) (n : m.Counts) : Type 0 where
-  pub columns : r.columns ≡ n.columns
-  pub keys : r.keys ≡ n.keys
-  pub tables : r.tables ≡ n.tables
-  pub policies : r.policies ≡ n.policies
-
--- "0..16, 1..8, 1..16, 0..16": at most so many
-pub record CountsFit (r : Counts) : Type 0 where
-  pub columns : r.columns ≤ 16
-  pub keys : r.keys ≤ 8
-  pub tables : r.tables ≤ 16
-  pub policies : r.policies ≤ 16
+-- a reader found an item, of which something holds, up to the place that is answered; or the same refusal
+abbrev pub Ends : {A : Type 0} → Read A → (A → Type 0) → Result Place Refusal → Type 0
+Ends m Holds (Ok q) = Got m Holds q
+Ends m Holds (Err e) = m ≡ refused (number e)
 
 -- the kinds ks stand by their numbers in `kinds` from number `from` on, where else `kinds` is as given
 pub record KindsPut (from : ℕ) (given kinds : List ℕ) (ks : List Kind) : Type 0 where

@@ -1,2 +1,4 @@
 pub mod Directory
 pub mod Fronts
+pub mod Codes
+pub mod Accepted

@@ -13,10 +13,7 @@ use clauses::is_member;
 fn cell(book: &[u32], i: usize) -> u32
     ensures { result ≡ get_or book.now i 0 }
 {
-    if i < book.len() {
-        return book[i];
-    }
-    0
+    book.get(i).copied().unwrap_or(0)
 }
 
 // A table's facts.
@@ -59,7 +56,7 @@ pub fn restrictive_of(book: &[u32], p: usize) -> bool
 pub fn commands_of(book: &[u32], p: usize) -> u64
     ensures { p < 16 → result ≡ policy_cell book.now p 1 }
 {
-    policy_cell(book, p, 1) as u64
+    u64::from(policy_cell(book, p, 1))
 }
 
 // Where the selector of policy p begins.
@@ -88,41 +85,36 @@ pub fn start_of(book: &[u32], p: usize, k: usize) -> usize
 
 // Does the selector of policy p match table t?
 pub fn matches(s: &[u8], d: Directory, book: &[u32], t: usize, p: usize) -> bool
-    ensures { (sheet : Sheet) → Described s.now sheet d book.now → t < length sheet.tables → p < length sheet.policies → result ≡ sheets.matches t (sheets.table_at sheet t) (policy_at sheet p).selector }
+    ensures { (sheet : Sheet) → Described s.now sheet d book.now → t < length sheet.tables → p < length sheet.policies
+        → result ≡ sheets.matches t (sheets.table_at sheet t) (policy_at sheet p).selector }
 {
-    let facts = d.facts;
     let start = selector_of(book, p);
-    let got = selector_at(
+    let at = Place {
+        byte: start / 8,
+        bit: start % 8,
+    };
+    let chosen = selector_at(
         s,
-        Place {
-            byte: start / 8,
-            bit: start % 8,
-        },
+        at,
         6,
-        facts.columns,
-        facts.tables,
+        d.facts.columns,
+        d.facts.tables,
         t as u64,
         table_of(book, t),
     );
-    got.matched
+    matches!(chosen, Ok((true, _)))
 }
 
 // Does policy p count for table t and a command?
 pub fn applies(s: &[u8], d: Directory, book: &[u32], t: usize, command: u64, p: usize) -> bool
     ensures { (sheet : Sheet) → Described s.now sheet d book.now → t < length sheet.tables → p < length sheet.policies → result ≡ sheets.applies sheet t command (policy_at sheet p) }
 {
-    if is_member(4, commands_of(book, p), command) {
-        return matches(s, d, book, t, p);
-    }
-    false
+    is_member(4, commands_of(book, p), command) && matches(s, d, book, t, p)
 }
 
 // A count, at most the most that there may be.
 pub fn up_to(most: usize, n: u64) -> usize
     ensures { (result ≤ most) × (n ≤ most → result ≡ n) }
 {
-    if n < most as u64 {
-        return n as usize;
-    }
-    most
+    n.min(most as u64) as usize
 }

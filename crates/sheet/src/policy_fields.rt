@@ -6,16 +6,17 @@ ghost use Rattle.meaning.specs.Sheets.{Sheet};
 ghost use Rattle.meaning.specs.Reading.{times, clause, policy};
 ghost use Rattle.clauses.specs.Facts.{FactsAre};
 ghost use Rattle.sheet.specs.Directory.{PolicyAt};
-ghost use Rattle.clauses.specs.Ends.{Ends};
+ghost use Rattle.values.specs.Reads.{Answers};
 ghost use Rattle.clauses.specs.Facts.{atom_held};
 ghost use Rattle.sheet.specs.Fronts.{FrontIs, KeptBelow, StartsAt, PoliciesIn, policy_serves};
 
 use crate::Table;
 use crate::selectors::selector_at;
 use crate::serving::shared_columns;
-use bits::{Field, Place, code_of, field_at};
-use clauses::fields::count_at;
-use clauses::{End, Facts, Held, clause_held};
+use bits::{Place, field_at};
+use clauses::{Facts, clause_held};
+use place::count_at;
+use refusals::Refusal;
 
 // The bit number of a place in a sheet.
 fn bit_of(p: Place) -> u32
@@ -33,95 +34,72 @@ fn clauses_at(
     columns: u64,
     book: &mut [u32],
     from: usize,
-) -> Held
+) -> Result<(bool, Place), Refusal>
     requires { (count ≤ 8) × (from + 8 ≤ length book.old) }
-    ensures { KeptBelow from book.old book.new × ((facts : Sheet) (p : ℕ) → FactsAre facts f → length s.now ≤ 16384 → at ≡ place_at p → Ends (times count (clause facts) s.now p) (λ cs. StartsAt s.now facts book.new from cs × (result.held ≡ every (every (atom_held columns)) cs)) result.end) }
+    ensures { KeptBelow from book.old book.new × ((facts : Sheet) (p : ℕ) → FactsAre facts f → length s.now ≤ 16384 → at ≡ place_at p →
+        Answers (times count (clause facts) s.now p) (λ b cs. StartsAt s.now facts book.new from cs × (b ≡ every (every (atom_held columns)) cs)) result) }
 {
     let mut held = true;
     let mut p = at;
-    let mut i = 0;
-    while i < count {
-        let got = clause_held(s, p, f, columns);
-        let end = got.end;
-        let End::At(next) = end else {
-            return Held { end, held };
-        };
-        held = held & got.held;
+    for i in 0..count {
+        let (all, next) = clause_held(s, p, f, columns)?;
+        held &= all;
         book[from + i] = bit_of(p);
         p = next;
-        i += 1;
     }
-    Held {
-        end: End::At(p),
-        held,
-    }
-}
-
-// A policy that was refused.
-fn no_policy(end: End) -> Held
-    ensures { result.end ≡ end }
-{
-    Held { end, held: true }
+    Ok((held, p))
 }
 
 // "each policy: type, commands", selector, clauses; put into the book's twelve cells from `from` on.
-fn policy_at(s: &[u8], at: Place, f: Facts, book: &mut [u32], from: usize) -> Held
+fn policy_at(
+    s: &[u8],
+    at: Place,
+    f: Facts,
+    book: &mut [u32],
+    from: usize,
+) -> Result<(bool, Place), Refusal>
     requires { from + 12 ≤ length book.old }
-    ensures { KeptBelow from book.old book.new × ((facts : Sheet) (p : ℕ) → FrontIs f book.old facts → length s.now ≤ 16384 → at ≡ place_at p → Ends (policy facts s.now p) (λ x. PolicyAt s.now facts x book.new from × (result.held ≡ policy_serves facts x)) result.end) }
+    ensures { KeptBelow from book.old book.new × ((facts : Sheet) (p : ℕ) → FrontIs f book.old facts → length s.now ≤ 16384 → at ≡ place_at p →
+        Answers (policy facts s.now p) (λ b x. PolicyAt s.now facts x book.new from × (b ≡ policy_serves facts x)) result) }
 {
-    let first = field_at(s, at, 1);
-    let Field::Value(kind, p) = first else {
-        return no_policy(End::Refused(code_of(first)));
-    };
-    let second = field_at(s, p, 4);
-    let Field::Value(commands, q) = second else {
-        return no_policy(End::Refused(code_of(second)));
-    };
+    let (kind, p) = field_at(s, at, 1)?;
+    let (commands, q) = field_at(s, p, 4)?;
     if commands < 1 {
-        return no_policy(End::Refused(8));
+        return Err(Refusal::NoCommand);
     }
     let none = Table {
         schema: 0,
         tags: 0,
         columns: 0,
     };
-    let chosen = selector_at(s, q, 6, f.columns, f.tables, 0, none);
-    let after = chosen.end;
-    let End::At(u) = after else {
-        return no_policy(after);
-    };
-    let third = count_at(s, u, 4, 0, 8);
-    let Field::Value(n, v) = third else {
-        return no_policy(End::Refused(code_of(third)));
-    };
+    let (_, u) = selector_at(s, q, 6, f.columns, f.tables, 0, none)?;
+    let (count, v) = count_at(s, u, 4, 0, 8)?;
     let columns = shared_columns(s, q, f, book);
     book[from] = kind as u32;
     book[from + 1] = commands as u32;
     book[from + 2] = bit_of(q);
-    book[from + 3] = n as u32;
-    clauses_at(s, v, f, n as usize, columns, book, from + 4)
+    book[from + 3] = count as u32;
+    clauses_at(s, v, f, count as usize, columns, book, from + 4)
 }
 
 // The fields of `count` policies, put into the book, and whether the tables serve each of them.
-pub fn policies_at(s: &[u8], at: Place, f: Facts, count: usize, book: &mut [u32]) -> Held
+pub fn policies_at(
+    s: &[u8],
+    at: Place,
+    f: Facts,
+    count: usize,
+    book: &mut [u32],
+) -> Result<(bool, Place), Refusal>
     requires { (count ≤ 16) × (length book.old ≡ 240) }
-    ensures { KeptBelow 48 book.old book.new × ((facts : Sheet) (p : ℕ) → FrontIs f book.old facts → length s.now ≤ 16384 → at ≡ place_at p → Ends (times count (policy facts) s.now p) (λ ps. PoliciesIn s.now facts book.new ps × (result.held ≡ every (policy_serves facts) ps)) result.end) }
+    ensures { KeptBelow 48 book.old book.new × ((facts : Sheet) (p : ℕ) → FrontIs f book.old facts → length s.now ≤ 16384 → at ≡ place_at p →
+        Answers (times count (policy facts) s.now p) (λ b ps. PoliciesIn s.now facts book.new ps × (b ≡ every (policy_serves facts) ps)) result) }
 {
     let mut held = true;
     let mut p = at;
-    let mut i = 0;
-    while i < count {
-        let got = policy_at(s, p, f, book, 48 + i * 12);
-        let end = got.end;
-        let End::At(next) = end else {
-            return Held { end, held };
-        };
-        held = held & got.held;
+    for i in 0..count {
+        let (served, next) = policy_at(s, p, f, book, 48 + i * 12)?;
+        held &= served;
         p = next;
-        i += 1;
     }
-    Held {
-        end: End::At(p),
-        held,
-    }
+    Ok((held, p))
 }

@@ -15,19 +15,13 @@ use clauses::Facts;
 pub fn shared_columns(s: &[u8], at: Place, f: Facts, book: &[u32]) -> u64
     ensures { (facts : Sheet) (x : Selector) (p q : ℕ) → FrontIs f book.now facts → at ≡ place_at p → selector 6 facts s.now p ≡ found x q → Shared facts x (length facts.tables) result }
 {
-    let columns = f.columns;
-    let tables = f.tables;
     let mut shared: u64 = 65535;
-    let mut t: usize = 0;
-    while (t as u64) < tables {
-        let table = table_of(book, t);
-        let got = selector_at(s, at, 6, columns, tables, t as u64, table);
-        if got.matched {
-            shared = shared & table.columns as u64;
-            t += 1;
-            continue;
+    for t in 0..f.tables {
+        let table = table_of(book, t as usize);
+        let chosen = selector_at(s, at, 6, f.columns, f.tables, t, table);
+        if let Ok((true, _)) = chosen {
+            shared &= u64::from(table.columns);
         }
-        t += 1;
     }
     shared
 }

@@ -1,21 +1,19 @@
 -- What steps 2 and 3 make of an atom by value, by its operator's number.
-use Prim.Native.Nat.{ℕ, ◌-◌, ◌+◌, ◌^◌, ◌<◌, ◌≤◌, min}
+use Prim.Native.Nat.{ℕ, ◌+◌, ◌≤◌, min}
 use mathlib.Core.Path.{◌≡◌, refl, ap, sym, ◌∙◌}
 use mathlib.Core.Bool.{Bool, true, false, cond}
 use mathlib.Core.List.{List}
 use native.Mathlib.Omega.{arith}
 use lib.ListN.{take, get_or}
 use lib.Dec.{eqb, ltb}
-use borrow.Author.Tests.{eqb-true, eqb-false, eq-eqb, ne_eqb, lt-ltb, le-ltb}
-use Rattle.lists.specs.Lists.{keep}
+use borrow.Author.Tests.{eqb-true, eqb-false, eq-eqb, ne_eqb}
+use Rattle.lists.specs.Lists.{keep, ascend}
 use Rattle.meaning.specs.declared.Atom.{Atom}
-use Rattle.meaning.specs.Values.{raw, token, boolean}
 use Rattle.meaning.specs.Atoms as m
 use Rattle.meaning.specs.Atoms.{Order, at_most, at_least, is_below, is_above, Operator, equals, in_list, not_in_list, order, is_null, is_not_null}
 use Rattle.meaning.specs.Packed.{order_number, operator_number}
 use Rattle.meaning.specs.Steps.{on, oriented, orient, tightened, tighten, spares, is_common, shared}
 use Rattle.meaning.specs.Views.{operator_of, atom_of}
-use Rattle.steps.specs.Lists.{kind_from}
 
 -- an operator that a number stands for, case by case
 module _ (P : Operator → Type 0) (op u n : ℕ) (ns : List ℕ) where
@@ -126,20 +124,24 @@ module _ (a : Atom) (v n : ℕ) where
   unfolding atom_of
   spare_list h i = sym (ap (λ (x : m.Atom). cond (eqb x.variable v) (spares n x.operator) true) (atom_by a 1 i) ∙ rw (eq-eqb a.variable v h))
 
--- a value and its 64 bits, by the number of its kind
-module _ (k n : ℕ) where
-  pub raw_other : (k ≡ 0 → ⊥) → n ≡ raw (kind_from k) n
-  raw_other h = rw (ne_eqb k 0 h) (go (eqb k 1))
-    where
-      go : (b : Bool) → n ≡ raw (cond b token boolean) n
-      go true = refl
-      go false = refl
-
-  pub raw_low : k ≡ 0 → n < 2 ^ 63 → n + 2 ^ 63 ≡ raw (kind_from k) n
-  raw_low h l = rw (eq-eqb k 0 h, lt-ltb n (2 ^ 63) l)
-
-  pub raw_high : k ≡ 0 → 2 ^ 63 ≤ n → n < 2 ^ 64 → n - 2 ^ 63 ≡ raw (kind_from k) n
-  raw_high h l i = rw (eq-eqb k 0 h, le-ltb n (2 ^ 63) l, lt-ltb n (2 ^ 64) i)
-
 pub share_list : (c : m.Clause) (a : Atom) → a.operator ≡ 1 → on a.variable (in_list (keep (is_common c a.variable) (take a.count a.values))) ≡ on (atom_of a).variable (shared c (atom_of a).variable (atom_of a).operator)
 share_list c a e = sym (ap (λ (x : m.Atom). on x.variable (shared c x.variable x.operator)) (atom_by a 1 e))
+
+-- an atom with another list
+module _ (a b : Atom) (v : b.variable ≡ a.variable) (o : b.operator ≡ a.operator) where
+  listed : (op : ℕ) → a.operator ≡ op → (ns : List ℕ) → take b.count b.values ≡ ns → atom_of b ≡ on a.variable (operator_of op b.other (get_or b.values 0 0) ns)
+  listed op e ns l =
+      atom_by b op (o ∙ e) ∙ ap (λ (w : ℕ). on w (operator_at op b)) v ∙ ap (λ t. on a.variable (operator_of op b.other (get_or b.values 0 0) t)) l
+
+  pub tighten_list : 1 ≤ a.operator → a.operator ≤ 2 → take b.count b.values ≡ ascend ltb (take a.count a.values) → atom_of b ≡ tighten (atom_of a)
+  tighten_list h k l = go (eqb a.operator 1) refl
+    where
+      go : (t : Bool) → eqb a.operator 1 ≡ t → atom_of b ≡ tighten (atom_of a)
+      go true e = let i = eqb-true a.operator 1 e in listed 1 i _ l ∙ tighten_at a 1 i
+      go false e =
+          let i : a.operator ≡ 2 = omega (arith, eqb-false a.operator 1 e) in
+          listed 2 i _ l ∙ tighten_at a 2 i
+
+pub share_with : (c : m.Clause) (a b : Atom) → a.operator ≡ 1 → b.variable ≡ a.variable → b.operator ≡ a.operator → take b.count b.values ≡ keep (is_common c a.variable) (take a.count a.values)
+    → atom_of b ≡ on (atom_of a).variable (shared c (atom_of a).variable (atom_of a).operator)
+share_with c a b e v o l = listed a b v o 1 e _ l ∙ share_list c a e

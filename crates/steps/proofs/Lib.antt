@@ -4,3 +4,4 @@ pub mod AtomLaws
 pub mod BitOrder
 pub mod OperandLaws
 pub mod EachLaws
+pub mod FewLaws

@@ -1,18 +1,15 @@
--- What the containers by value hold, as lists; the kinds of variables by their numbers.
-use Rattle.std.specs.Prelude.{ℕ, ◌≡◌, Bool, true, false, cond, List, ◌∷◌, ◌++◌, length, take, drop, get_or, eqb}
-use Rattle.lists.specs.Lists.{All, each}
+-- The order of two things; the kinds of variables by their numbers.
+use Rattle.std.specs.Prelude.{ℕ, Bool, cond, List, ◌++◌, length, get_or, eqb}
+use Rattle.std.specs.declared.cmp.Ordering.{Ordering}
+use Rattle.std.specs.declared.cmp.Ordering.TheVariants.{Less, Equal, Greater}
+use Rattle.lists.specs.Lists.{each}
 use Rattle.bits.specs.Bits.{bits}
 use Rattle.meaning.specs.Values.{Kind, integer, token, boolean}
 use Rattle.meaning.specs.Packed.{value_bits}
-use Rattle.steps.specs.declared.Values.{Values}
 
-abbrev pub list_of : Values → List ℕ
-list_of v = take v.count v.items
-
--- x goes behind the first r of xs, and not behind the next
-pub record Ranked {A : Type 0} (before : A → A → Bool) (x : A) (xs : List A) (r : ℕ) : Type 0 where
-  pub passed : All (λ y. before y x ≡ true) (take r xs)
-  pub stops : (y : A) (ys : List A) → drop r xs ≡ y ∷ ys → before y x ≡ false
+-- how two things stand to each other, where `before` says which stands before which
+abbrev pub compared : {A : Type 0} → (A → A → Bool) → A → A → Ordering
+compared before x y = cond (before x y) Less (cond (before y x) Greater Equal)
 
 -- "0 integer, 1 token, 2 boolean"
 abbrev pub kind_from : ℕ → Kind

@@ -1,71 +1,42 @@
 // Steps 2 and 3 of one atom.
-ghost use Rattle.std.specs.Prelude.{◌≡◌, ◌+◌, ◌-◌, ◌^◌, ◌<◌, min, List, [], get_or};
-ghost use Rattle.lists.specs.Lists.{each, ascend};
+ghost use Rattle.std.specs.Prelude.{◌≡◌, take, List, []};
 ghost use Rattle.meaning.specs.Views.{operator_of, atom_of};
 ghost use Rattle.meaning.specs.Steps.{on, orient, tighten};
-ghost use Rattle.steps.specs.Lists.{list_of};
 
-use crate::Values;
+use crate::Few;
 use crate::numbers::{ascend_values, list_of};
 use meaning::Atom;
+use std::cmp::Ordering;
 
 // Step 2: "Equality of a variable with itself becomes "is not null". Otherwise the lower variable number stands left."
 pub fn orient_atom(a: Atom) -> Atom
     ensures { atom_of result ≡ orient (atom_of a) }
 {
-    let o = a.operator;
-    let v = a.variable;
-    let w = a.other;
-    let values = a.values;
-    if o != 0 {
+    if a.operator != 0 {
         return a;
     }
-    if v == w {
-        return Atom {
-            variable: v,
-            operator: 8,
-            other: 0,
-            count: 0,
-            values,
-        };
+    match a.variable.cmp(&a.other) {
+        Ordering::Less => a,
+        Ordering::Equal => Atom { operator: 8, ..a },
+        Ordering::Greater => Atom {
+            variable: a.other,
+            other: a.variable,
+            ..a
+        },
     }
-    if w < v {
-        return Atom {
-            variable: w,
-            operator: 0,
-            other: v,
-            count: 0,
-            values,
-        };
-    }
-    a
 }
 
-// The next integer down, unless there is none; and up.
-pub fn down(n: u64) -> u64
-    ensures { result ≡ n - 1 }
+// The atom with another list.
+pub fn with_list(a: Atom, list: &Few<u64>) -> Atom
+    ensures variable { result.variable ≡ a.variable }
+    ensures operator { result.operator ≡ a.operator }
+    ensures other { result.other ≡ a.other }
+    ensures list { take result.count result.values ≡ list.now }
 {
-    if n < 1 { 0 } else { n - 1 }
-}
-
-pub fn up(n: u64) -> u64
-    ensures { result ≡ min (n + 1) (2 ^ 64 - 1) }
-{
-    if n < 18446744073709551615 { n + 1 } else { n }
-}
-
-// An atom with a list of values.
-pub fn with_list(v: u64, o: u64, list: Values) -> Atom
-    ensures { atom_of result ≡ on v (operator_of o 0 (get_or list.items 0 0) (list_of list)) }
-{
-    let n = list.count;
-    let values = list.items;
     Atom {
-        variable: v,
-        operator: o,
-        other: 0,
-        count: n as u64,
-        values,
+        count: list.as_slice().len() as u64,
+        values: list.items(),
+        ..a
     }
 }
 
@@ -86,20 +57,10 @@ pub fn with_bound(v: u64, o: u64, n: u64) -> Atom
 pub fn tighten_atom(a: Atom) -> Atom
     ensures { atom_of result ≡ tighten (atom_of a) }
 {
-    let o = a.operator;
-    let v = a.variable;
-    let values = a.values;
-    if o == 5 {
-        return with_bound(v, 3, down(values[0]));
+    match a.operator {
+        1 | 2 => with_list(a, &ascend_values(list_of(&a))),
+        5 => with_bound(a.variable, 3, a.values[0].saturating_sub(1)),
+        6 => with_bound(a.variable, 4, a.values[0].saturating_add(1)),
+        _ => a,
     }
-    if o == 6 {
-        return with_bound(v, 4, up(values[0]));
-    }
-    if o == 1 {
-        return with_list(v, 1, ascend_values(list_of(a)));
-    }
-    if o == 2 {
-        return with_list(v, 2, ascend_values(list_of(a)));
-    }
-    a
 }

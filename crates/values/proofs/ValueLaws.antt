@@ -6,11 +6,12 @@ use borrow.Author.Tests.{lt-ltb, le-ltb, le-leb, lt-leb}
 use mathlib.Core.List.{List}
 use Rattle.bits.specs.Fields.{place_at, field_at}
 use Rattle.bits.specs.declared.Place.{Place}
-use Rattle.bits.specs.declared.Field.{Field}
-use Rattle.bits.specs.declared.Field.TheVariants.{Value, Refused}
+use Rattle.std.specs.Prelude.{Ok, Err}
+use Rattle.refusals.specs.declared.Refusal.{Refusal}
 use Rattle.meaning.specs.Reading.{value}
-use Rattle.values.specs.Reads.{field_of}
-use Rattle.values.proofs.ReadLaws.{field_found, field_lost}
+use Rattle.meaning.specs.Reading.{refused}
+use Rattle.values.specs.Reads.{Got}
+use Rattle.values.proofs.ReadLaws.{field_got, field_lost, goes_on, ends}
 use Rattle.meaning.specs.Values.{Kind, integer, token, boolean, kind_number, last, raw}
 
 -- the low half of the integers, the high half, and the other kinds
@@ -46,17 +47,22 @@ last_boolean token e h = absurd (h refl)
 last_boolean boolean e h = refl
 
 -- a value's field refused, a value of the kind, and one that is not: a law for each
-module _ (k : Kind) (s : List ℕ) (p : ℕ) (at : Place) (here : at ≡ place_at p) {f : Field} (g : f ≡ field_at s at 64) where
-  pub value_lost : {n : ℕ} → f ≡ Refused n → f ≡ field_of (value k s p)
+module _ (k : Kind) (s : List ℕ) (p : ℕ) (at : Place) (here : at ≡ place_at p) where
+  pub value_lost : {x : Refusal} → Err x ≡ field_at s at 64 → value k s p ≡ refused 2
   unfolding value
-  value_lost e = e ∙ simp (field_lost s at p 64 (omega arith) (omega arith) g here e)
+  value_lost g = ends _ (field_lost s at p 64 (omega arith) (omega arith) here g)
 
-  module _ {x v l : ℕ} {q : Place} (e : f ≡ Value x q) (r : v ≡ raw k x) (m : l ≡ last k) where
-    pub value_found : v ≤ l → Value v q ≡ field_of (value k s p)
+  module _ {x v l : ℕ} {q : Place} (g : Ok (x, q) ≡ field_at s at 64) (r : v ≡ raw k x) (m : l ≡ last k) where
+    pub value_got : v ≤ l → Got (value k s p) (λ y. v ≡ y) q
     unfolding value
-    value_found h = field_found s at p 64 (omega arith) (omega arith) g here e (λ o i j.
-        simp (i, le-leb (raw k x) (last k) (omega arith)) (ap (λ y. Value y q) r ∙ ap (Value (raw k x)) j))
+    value_got h =
+        let o = field_got s at p 64 (omega arith) (omega arith) here g in
+        let i : v ≡ raw k o.item = r ∙ ap (raw k) o.holds in
+        record { item = raw k o.item; place = o.place; read = goes_on _ o ∙ simp (le-leb (raw k o.item) (last k) (omega arith)); here = o.here; holds = i }
 
-    pub value_strange : l < v → Refused 7 ≡ field_of (value k s p)
+    pub value_strange : l < v → value k s p ≡ refused 7
     unfolding value
-    value_strange h = field_found s at p 64 (omega arith) (omega arith) g here e (λ o i j. simp (i, lt-leb (raw k x) (last k) (omega arith)))
+    value_strange h =
+        let o = field_got s at p 64 (omega arith) (omega arith) here g in
+        let i : v ≡ raw k o.item = r ∙ ap (raw k) o.holds in
+        goes_on _ o ∙ simp (lt-leb (raw k o.item) (last k) (omega arith))

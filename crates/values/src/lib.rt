@@ -1,6 +1,6 @@
 // A value of a kind, read at a place. Bytes, a place and a kind's number come in; out goes the value's order code with the next place, or the
-// refusal number: 2 where its 64 bits are not wholly there, 7 where it is not of the kind ("2 before the field's own fault"). Sheets, sessions
-// and rows all read their values here. Stands on bits and meaning; specs/Reads.antt says how an answer of the code stands for what the
+// refusal: 2 where its 64 bits are not wholly there, 7 where it is not of the kind ("2 before the field's own fault"). Sheets, sessions
+// and rows all read their values here. Stands on refusals, bits and meaning; specs/Reads.antt says how an answer of the code stands for what the
 // definitions read.
 #![tactic(auto)]
 
@@ -8,9 +8,10 @@ ghost use Rattle.std.specs.Prelude.{◌≡◌, ℕ};
 ghost use Rattle.bits.specs.Fields.{place_at};
 ghost use Rattle.meaning.specs.Values.{Kind, kind_number, last, raw};
 ghost use Rattle.meaning.specs.Reading.{value};
-ghost use Rattle.values.specs.Reads.{field_of};
+ghost use Rattle.values.specs.Reads.{Reads};
 
-use bits::{Field, Place, field_at};
+use bits::{Place, field_at};
+use refusals::Refusal;
 
 // A value's 64 bits as its order code, and back: "two's complement".
 pub fn raw_of(kind: u8, x: u64) -> u64
@@ -37,16 +38,16 @@ pub fn last_of(kind: u8) -> u64
 }
 
 // A value of a kind at a place.
-pub fn value_at(s: &[u8], at: Place, kind: u8) -> Field
-    ensures { (k : Kind) (p : ℕ) → kind_number k ≡ kind → at ≡ place_at p → result ≡ field_of (value k s.now p) }
+pub fn value_at(s: &[u8], at: Place, kind: u8) -> Result<(u64, Place), Refusal>
+    ensures { (k : Kind) (p : ℕ) → kind_number k ≡ kind → at ≡ place_at p → Reads (value k s.now p) result }
 {
-    let got = field_at(s, at, 64);
-    let Field::Value(x, next) = got else {
-        return got;
+    // taken apart by `let .. else`, as 01 has it of a field with a fault of its own
+    let Ok((x, next)) = field_at(s, at, 64) else {
+        return Err(Refusal::CutOff);
     };
     let v = raw_of(kind, x);
-    if v <= last_of(kind) {
-        return Field::Value(v, next);
+    if last_of(kind) < v {
+        return Err(Refusal::WrongKind);
     }
-    Field::Refused(7)
+    Ok((v, next))
 }

@@ -1,5 +1,4 @@
+pub mod ReplyLaws
 pub mod LayLaws
 pub mod LeakLaws
 pub mod TenantLaws
-pub mod ReplyLaws
-pub mod AnswerLaws

@@ -1,2 +1,2 @@
 pub mod Questions
-pub mod Answers
+pub mod Posing

@@ -1,83 +1,64 @@
--- What the verdicts ask of a table and command, and how far their searches have got.
-use Rattle.std.specs.Prelude.{ℕ, ◌+◌, ◌<◌, ◌≡◌, Bool, true, false, List, [], map, length, get_or}
+-- What the verdicts ask of a table and command, and what their searches answer.
+use Rattle.std.specs.Prelude.{ℕ, ◌+◌, ◌<◌, ◌≡◌, Bool, true, false, List, [], map, get_or, refl}
+use Rattle.std.specs.Coded.{Coded, code_by, coded×, coded_ℕ}
+use Rattle.std.specs.declared.result.Result.{Result}
+use Rattle.std.specs.declared.result.Result.TheVariants.{Ok, Err}
 use Rattle.lists.specs.Decides.{Decides}
 use Rattle.meaning.specs.Values.{Contents, with}
 use Rattle.meaning.specs.Atoms.{Clause, clause_met}
 use Rattle.meaning.specs.Sheets.{Sheet, table_at, holds, branches, branch_count}
-use Rattle.meaning.specs.Questions.{Leak}
-use Rattle.meaning.specs.Replies.{asks, refuses, asked_table}
-use Rattle.sheet.specs.declared.Directory.{Directory}
-use Rattle.branches.specs.Parts.{RolesAre, CountsAre}
-use Rattle.covering.specs.Covering.{Read}
-use Rattle.asked.specs.Words.{word_atoms, seen}
-use Rattle.asked.specs.Asked.{Ranges, Uses, Meets, Both}
-use Rattle.verdicts.specs.declared.Question.{Question}
-use Rattle.verdicts.specs.declared.Posed.{Posed}
-use Rattle.verdicts.specs.declared.Standing.{Standing}
-use Rattle.verdicts.specs.declared.Standing.TheVariants.{Stands, Refused}
+use Rattle.meaning.specs.Replies.{Asked, asks, refuses}
+use Rattle.refusals.specs.declared.Refusal.{Refusal}
+use Rattle.refusals.specs.Refusals.{number}
+use Rattle.sheet.specs.Codes.{sheet_code}
+use Rattle.asked.specs.Words.{seen}
+use Rattle.asked.specs.Asked.{Meets, Both}
 
--- "Branches are numbered from 0": branch k, and the rows of its table
-abbrev pub branch_at : Sheet → ℕ → ℕ → ℕ → Clause
-branch_at sheet t command k = get_or (branches sheet t command) k []
+-- what is posed: a table and a command, of a sheet
+pub record Posed : Type 0 where
+  pub sheet : Sheet
+  pub table : ℕ
+  pub command : ℕ
 
-abbrev pub held_by : Sheet → ℕ → ℕ → Bool
-held_by sheet t = holds (table_at sheet t)
+abbrev pub posed_code : Coded Posed
+posed_code = code_by (Sheet × (ℕ × ℕ)) (coded× sheet_code (coded× coded_ℕ coded_ℕ)) (λ q. (q.sheet, (q.table, q.command))) (λ p. record { sheet = p.0; table = p.1.0; command = p.1.1 }) (λ _. refl)
 
--- the directory d and the question q are those of the sheet in s, its table t and the command
-pub record Poses (s : List ℕ) (d : Directory) (book : List ℕ) (q : Question) (sheet : Sheet) (t command : ℕ) : Type 0 where
-  pub read : Read s d book sheet
-  pub there : t < length sheet.tables
-  pub roles : RolesAre sheet t command q.roles
-  pub counts : CountsAre sheet q.counts
-  pub number : q.number ≡ branch_count sheet t command
-  pub ranges : Ranges sheet q.top
+-- what a call asks stands as what is posed, or is refused
+abbrev pub Puts : Sheet → ℕ → ℕ → Asked Sheet → Result Posed Refusal → Type 0
+Puts sheet t command asked (Ok q) = (asked ≡ asks sheet) × (q ≡ record { sheet = sheet; table = t; command = command })
+Puts sheet t command asked (Err e) = asked ≡ refuses (number e)
 
--- what is asked of the sheet in s stands, or is refused
-abbrev pub StandsAs : List ℕ → List ℕ → ℕ → ℕ → Directory → Question → Standing → Type 0
-StandsAs s book t command d q Stands = (sheet : Sheet) × (asked_table s t command ≡ asks sheet) × Poses s d book q sheet t command
-StandsAs s book t command d q (Refused n) = asked_table s t command ≡ refuses n
+-- "Branches are numbered from 0": N, branch k, and the rows of the table
+abbrev pub number_of : Posed → ℕ
+number_of q = branch_count q.sheet q.table q.command
 
-abbrev pub PosedAs : List ℕ → List ℕ → ℕ → ℕ → Posed → Type 0
-PosedAs s book t command r = StandsAs s book t command r.directory r.question r.standing
+abbrev pub branch_at : Posed → ℕ → Clause
+branch_at q k = get_or (branches q.sheet q.table q.command) k []
 
--- the answer says whether branch k is met by some row of the table and session
-pub record TellsBranch (s : List ℕ) (d : Directory) (book : List ℕ) (q : Question) (k : ℕ) (r : Bool) : Type 0 where
-  pub tells : (sheet : Sheet) (t command : ℕ) → Poses s d book q sheet t command → k < branch_count sheet t command → Decides (Meets (held_by sheet t) sheet (branch_at sheet t command k)) r
+abbrev pub held_by : Posed → ℕ → Bool
+held_by q = holds (table_at q.sheet q.table)
 
--- "some row meets a with one session and b with a session of another tenant", for branch b and the laid clause a
-abbrev pub OtherMeets : Sheet → ℕ → Clause → Clause → Type 0
-OtherMeets sheet t a b = Both (held_by sheet t) sheet a b (λ m. m 16 ≡ m 24 → ⊥)
+-- some row of the table and session meets branch k
+abbrev pub Met : Posed → ℕ → Type 0
+Met q k = Meets (held_by q) q.sheet (branch_at q k)
 
-pub record TellsPair (s : List ℕ) (d : Directory) (book : List ℕ) (q : Question) (words : List ℕ) (n b : ℕ) (r : Bool) : Type 0 where
-  pub tells : (sheet : Sheet) (t command : ℕ) (c : Clause) → Poses s d book q sheet t command →
-      word_atoms words n ≡ map (seen false) c → Uses (held_by sheet t) sheet c → b < branch_count sheet t command →
-      Decides (OtherMeets sheet t c (branch_at sheet t command b)) r
+-- "some row meets a with one session and b with a session of another tenant"
+abbrev pub OtherMeets : Posed → Clause → Clause → Type 0
+OtherMeets q a b = Both (held_by q) q.sheet a b (λ m. m 16 ≡ m 24 → ⊥)
 
--- the first n atoms of the words stay as they were
-pub record KeepsAtoms (s : List ℕ) (d : Directory) (book : List ℕ) (n : ℕ) (words after : List ℕ) : Type 0 where
-  pub kept : (sheet : Sheet) → Read s d book sheet → word_atoms after n ≡ word_atoms words n
+-- the answer says whether they do, for the branch that is laid as these atoms and branch b
+abbrev pub TellsPair : Posed → ℕ → Clause → Bool → Type 0
+TellsPair q b laid r = (a : ℕ) → a < number_of q → laid ≡ map (seen false) (branch_at q a) → Decides (OtherMeets q (branch_at q a) (branch_at q b)) r
 
 -- whoever meets the branch holds the same in column c and in key 0
 abbrev pub Anchored : Clause → ℕ → Type 0
 Anchored branch c = (row one : Contents) → clause_met (with row one) branch ≡ true → row c ≡ one 0
 
--- a branch marked 0 is met by nobody; one marked c + 2 has its tenant in column c
-pub record Marks (s : List ℕ) (d : Directory) (book : List ℕ) (q : Question) (marks : List ℕ) : Type 0 where
-  pub unmet : (sheet : Sheet) (t command k : ℕ) → Poses s d book q sheet t command →
-      k < branch_count sheet t command → k < 256 → get_or marks k 0 ≡ 0 → Meets (held_by sheet t) sheet (branch_at sheet t command k) → ⊥
-  pub anchored : (sheet : Sheet) (t command k c : ℕ) → Poses s d book q sheet t command →
-      k < branch_count sheet t command → k < 256 → get_or marks k 0 ≡ c + 2 → Anchored (branch_at sheet t command k) c
+-- the mark of branch k: one marked 0 is met by nobody; one marked c + 2 has its tenant in column c
+pub record TellsMark (q : Posed) (k r : ℕ) : Type 0 where
+  pub unmet : r ≡ 0 → Met q k → ⊥
+  pub anchored : (c : ℕ) → r ≡ c + 2 → Anchored (branch_at q k) c
 
--- the mark of branch k
-pub record TellsMark (s : List ℕ) (d : Directory) (book : List ℕ) (q : Question) (k r : ℕ) : Type 0 where
-  pub unmet : (sheet : Sheet) (t command : ℕ) → Poses s d book q sheet t command → k < branch_count sheet t command → r ≡ 0 → Meets (held_by sheet t) sheet (branch_at sheet t command k) → ⊥
-  pub anchored : (sheet : Sheet) (t command c : ℕ) → Poses s d book q sheet t command → k < branch_count sheet t command → r ≡ c + 2 → Anchored (branch_at sheet t command k) c
-
--- the answer says whether branches a, laid in the words, and b leak
-pub record TellsLeaking (s : List ℕ) (d : Directory) (book : List ℕ) (q : Question) (marks words : List ℕ) (n a b : ℕ) (r : Bool) : Type 0 where
-  pub tells : (sheet : Sheet) (t command : ℕ) → Poses s d book q sheet t command → Marks s d book q marks → a < branch_count sheet t command → b < branch_count sheet t command →
-      word_atoms words n ≡ map (seen false) (branch_at sheet t command a) → Decides (Leak sheet t command a b) r
-
--- branch k is laid in the words, as their first n atoms
-pub record LaidAt (s : List ℕ) (d : Directory) (book : List ℕ) (q : Question) (k : ℕ) (words : List ℕ) (n : ℕ) : Type 0 where
-  pub laid : (sheet : Sheet) (t command : ℕ) → Poses s d book q sheet t command → k < branch_count sheet t command → word_atoms words n ≡ map (seen false) (branch_at sheet t command k)
+-- the marks of the first 256 branches
+abbrev pub Marks : Posed → List ℕ → Type 0
+Marks q marks = (k : ℕ) → k < 256 → k < number_of q → TellsMark q k (get_or marks k 0)

@@ -2,32 +2,17 @@
 use Prim.Native.Nat.{ℕ, ◌+◌, ◌<◌}
 use native.Mathlib.Omega.{arith}
 use native.Mathlib.Decide.{ℕ_discrete}
-use native.Mathlib.Nat.{not-suc-le-zero}
-use mathlib.Core.Path.{◌≡◌, refl, sym, ◌∙◌, ap, subst}
+use mathlib.Core.Path.{◌≡◌, refl, sym, ◌∙◌, ap}
 use mathlib.Core.Bool.{Bool, true, false}
 use mathlib.Core.List.{List}
-use lib.ListN.{length, get_or, set}
-use lib.Seq.{get_or-set_same, get_or-set_other}
+use lib.ListN.{get_or}
 use lib.Dec.{eqb}
 use borrow.Author.Count.{below_more}
 use borrow.Author.Tests.{ne_eqb, eq-eqb}
 use Rattle.words.specs.Meaning.{Content, var_at, op_at, other_at, atoms}
 use Rattle.words.specs.Ties.{pick_n, mate_at, Met, renamed, Renames, Classes}
 
--- one more element of a list that is filled from the front: what each element has, by its place
-pub fill_more : (P : ℕ → ℕ → Type 0) (out : List ℕ) (v x : ℕ) → v < length out → ((w : ℕ) → w < v → P w (get_or out w 0)) → P v x → (w : ℕ) → w < v + 1 → P w (get_or (set out v x) w 0)
-fill_more P out v x l h e =
-    below_more (λ w. P w (get_or (set out v x) w 0)) v (λ w d. subst (P w) (sym (get_or-set_other out v w x 0 (omega arith))) (h w d)) (subst (P v) (sym (get_or-set_same out v x 0 l)) e)
-
--- the same of a list that is filled by a rule
-pub fill_step : (f : ℕ → ℕ) (out : List ℕ) (v x : ℕ) → v < length out → ((w : ℕ) → w < v → get_or out w 0 ≡ f w) → x ≡ f v → (w : ℕ) → w < v + 1 → get_or (set out v x) w 0 ≡ f w
-fill_step f out v x l h e =
-    below_more (λ w. get_or (set out v x) w 0 ≡ f w) v (λ w d. get_or-set_other out v w x 0 (omega arith) ∙ h w d) (get_or-set_same out v x 0 l ∙ e)
-
 -- labels
-
-pub at_label : (rep : List ℕ) {v w r : ℕ} → v ≡ w → get_or rep v 0 ≡ r → get_or rep w 0 ≡ r
-at_label rep e q = ap (λ (k : ℕ). get_or rep k 0) (sym e) ∙ q
 
 pick_same : (b : Bool) (a : ℕ) → pick_n b a a ≡ a
 pick_same true a = refl
@@ -46,10 +31,6 @@ mate_below s i = go (eqb (op_at s i) 0)
     go : (b : Bool) → pick_n b (other_at s i) (var_at s i) < 32
     go true = omega arith
     go false = omega arith
-
-pub classes_none : (s rep : List ℕ) → ((v : ℕ) → v < 32 → get_or rep v 0 ≡ v) → Classes s 0 rep
-classes_none s rep h =
-    record { joined = λ i l. absurd (not-suc-le-zero l); sound = λ e m v w lv lw q. ap e (sym (h v lv) ∙ q ∙ h w lw) }
 
 -- atom i ties nothing new
 pub classes_skip : (s rep : List ℕ) (i v p : ℕ) → v ≡ var_at s i → p ≡ mate_at s i → get_or rep v 0 ≡ get_or rep p 0 → Classes s i rep → Classes s (i + 1) rep
@@ -103,6 +84,3 @@ module _ (s rep out : List ℕ) (i v p : ℕ) (ev : v ≡ var_at s i) (ep : p �
   classes_right r =
       classes_more s rep out i p v lp lv (λ e m. sym (tie e m)) h r
       (ap (λ (k : ℕ). get_or out k 0) (sym ev) ∙ sym (tied_now s rep out i p v lp lv (λ e m. sym (tie e m)) h r) ∙ ap (λ (k : ℕ). get_or out k 0) ep)
-
-pub classes_done : (s rep : List ℕ) (i k : ℕ) → i ≡ k → Classes s i rep → Classes s k rep
-classes_done s rep i k e h = subst (λ (j : ℕ). Classes s j rep) e h

@@ -14,18 +14,18 @@ mate_at s i = pick_n (eqb (op_at s i) 0) (other_at s i) (var_at s i)
 abbrev pub Met : List ℕ → ℕ → (ℕ → Content) → Type 0
 Met s i e = passes (test_at s i) (e (var_at s i)) × (e (var_at s i) ≡ e (mate_at s i))
 
--- contents that meet the conjunction, null only where need is 0, and nowhere under floor
-pub record Model (s need floor : List ℕ) (e : ℕ → Content) : Type 0 where
+-- contents that meet the conjunction, null only where need is false, and nowhere under floor
+pub record Model (s : List ℕ) (need : List Bool) (floor : List ℕ) (e : ℕ → Content) : Type 0 where
   pub bounded : (v n : ℕ) → v < 32 → e v ≡ value n → n < 2 ^ 64
   pub meets : (i : ℕ) → i < atoms s → Met s i e
-  pub needed : (v : ℕ) → v < 32 → (get_or need v 0 ≡ 0 → ⊥) → e v ≡ null → ⊥
+  pub needed : (v : ℕ) → v < 32 → get_or need v false ≡ true → e v ≡ null → ⊥
   pub above : (v n : ℕ) → v < 32 → e v ≡ value n → get_or floor v 0 ≤ n
 
 -- need holds need0, the variables of the first k atoms that want a value, and only variables that no model has null
-pub record Needs (s : List ℕ) (k : ℕ) (need0 need : List ℕ) : Type 0 where
-  pub kept : (v : ℕ) → (get_or need0 v 0 ≡ 0 → ⊥) → get_or need v 0 ≡ 0 → ⊥
-  pub wanted : (i : ℕ) → i < k → wants (test_at s i) ≡ true → get_or need (var_at s i) 0 ≡ 0 → ⊥
-  pub mates : (i : ℕ) → i < k → wants (test_at s i) ≡ true → get_or need (mate_at s i) 0 ≡ 0 → ⊥
+pub record Needs (s : List ℕ) (k : ℕ) (need0 need : List Bool) : Type 0 where
+  pub kept : (v : ℕ) → get_or need0 v false ≡ true → get_or need v false ≡ true
+  pub wanted : (i : ℕ) → i < k → wants (test_at s i) ≡ true → get_or need (var_at s i) false ≡ true
+  pub mates : (i : ℕ) → i < k → wants (test_at s i) ≡ true → get_or need (mate_at s i) false ≡ true
   pub only : (floor : List ℕ) (e : ℕ → Content) → Model s need0 floor e → Model s need floor e
 
 -- u and w hold the same wherever the conjunction is met
@@ -45,5 +45,5 @@ pub record Classes (s : List ℕ) (k : ℕ) (rep : List ℕ) : Type 0 where
   pub sound : (e : ℕ → Content) → ((i : ℕ) → i < atoms s → Met s i e) → (v w : ℕ) → v < 32 → w < 32 → get_or rep v 0 ≡ get_or rep w 0 → e v ≡ e w
 
 -- where an atom that wants a value is, its mate is needed
-pub record Closed (s need : List ℕ) : Type 0 where
-  pub mates : (i : ℕ) → i < atoms s → wants (test_at s i) ≡ true → get_or need (mate_at s i) 0 ≡ 0 → ⊥
+pub record Closed (s : List ℕ) (need : List Bool) : Type 0 where
+  pub mates : (i : ℕ) → i < atoms s → wants (test_at s i) ≡ true → get_or need (mate_at s i) false ≡ true

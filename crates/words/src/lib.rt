@@ -5,8 +5,12 @@
 
 ghost use Rattle.std.specs.Prelude.{◌≡◌, true, ℕ, ◌/◌, ◌<◌, length, get_or};
 ghost use Rattle.words.specs.Meaning.{wants, test_at, var_at};
-ghost use Rattle.words.specs.Ties.{mate_at, Needs, Tied, renamed, Renames, Classes};
+ghost use Rattle.words.specs.Ties.{mate_at, Needs, Tied, Renames, Classes};
 
+use std::array;
+
+// An atom goes by its index, and its operator by a number: eleven words an atom are the layout that `atom_at` of specs/Meaning.antt names.
+#[tactic(auto, unfolding(crate::specs::Meaning::test_at))]
 fn wanting(s: &[u64], i: usize) -> bool
     requires { i < length s.now / 11 }
     ensures { result ≡ wants (test_at s.now i) }
@@ -21,33 +25,24 @@ pub fn var_at(s: &[u64], i: usize) -> usize
     (s[i * 11] % 32) as usize
 }
 
+#[tactic(auto, unfolding(crate::specs::Ties::mate_at))]
 fn mate_at(s: &[u64], i: usize) -> usize
     requires { i < length s.now / 11 }
     ensures { (result ≡ mate_at s.now i) × (result < 32) }
 {
     let b = i * 11;
-    if s[b + 1] == 0 {
-        return (s[b + 2] % 32) as usize;
-    }
-    (s[b] % 32) as usize
+    let other = if s[b + 1] == 0 { s[b + 2] } else { s[b] };
+    (other % 32) as usize
 }
 
 // The variables that cannot be null.
-pub fn needs(s: &[u64], need0: [u64; 32]) -> [u64; 32]
-    ensures { Needs s.now (length s.now / 11) need0 result }
+pub fn needs(s: &[u64], mut need: [bool; 32]) -> [bool; 32]
+    ensures { Needs s.now (length s.now / 11) need result }
 {
-    let mut need = need0;
-    let n = s.len() / 11;
-    let mut i = 0;
-    while i < n {
+    for i in 0..s.len() / 11 {
         if wanting(s, i) {
-            let v = var_at(s, i);
-            let p = mate_at(s, i);
-            need[v] = 1;
-            need[p] = 1;
-            i += 1;
-        } else {
-            i += 1;
+            need[var_at(s, i)] = true;
+            need[mate_at(s, i)] = true;
         }
     }
     need
@@ -57,60 +52,33 @@ pub fn needs(s: &[u64], need0: [u64; 32]) -> [u64; 32]
 fn own() -> [u64; 32]
     ensures { (v : ℕ) → v < 32 → get_or result v 0 ≡ v }
 {
-    let mut out = [0u64; 32];
-    let mut v: usize = 0;
-    while v < 32 {
-        out[v] = v as u64;
-        v += 1;
-    }
-    out
-}
-
-fn label(l: u64, a: u64, b: u64) -> u64
-    ensures { result ≡ renamed a b l }
-{
-    if l == b {
-        return a;
-    }
-    l
+    array::from_fn(|v| v as u64)
 }
 
 // The label b is renamed to a.
-fn rename(rep: [u64; 32], a: u64, b: u64) -> [u64; 32]
-    ensures { Renames a b rep result }
+fn rename(rep: &mut [u64; 32], a: u64, b: u64)
+    ensures { Renames a b rep.old rep.new }
 {
-    let mut out = [0u64; 32];
-    let mut v = 0;
-    while v < 32 {
-        out[v] = label(rep[v], a, b);
-        v += 1;
+    for l in rep.iter_mut() {
+        if *l == b {
+            *l = a;
+        }
     }
-    out
 }
 
 // Equated variables get one label, the lesser of their two.
 pub fn classes_of(s: &[u64]) -> [u64; 32]
     ensures { Classes s.now (length s.now / 11) result }
 {
-    let n = s.len() / 11;
     let mut rep = own();
-    let mut i = 0;
-    while i < n {
-        let v = var_at(s, i);
-        let p = mate_at(s, i);
-        let a = rep[v];
-        let b = rep[p];
-        if a == b {
-            i += 1;
-            continue;
-        }
+    for i in 0..s.len() / 11 {
+        let a = rep[var_at(s, i)];
+        let b = rep[mate_at(s, i)];
         if a < b {
-            rep = rename(rep, a, b);
-            i += 1;
-            continue;
+            rename(&mut rep, a, b);
+        } else if b < a {
+            rename(&mut rep, b, a);
         }
-        rep = rename(rep, b, a);
-        i += 1;
     }
     rep
 }

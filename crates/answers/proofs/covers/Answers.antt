@@ -1,5 +1,12 @@
--- What was read is handed on, and the book that it stands in is lent.
+-- What was accepted is handed on, the bytes being its packed form; what was not is refused by the sheet's own number.
+use Rattle.std.proofs.Common.{subst}
+use Rattle.std.proofs.lemmas.Result.{err_from_is_err_and}
+use Rattle.meaning.specs.Replies.{CoversReply}
+use Rattle.verdicts.proofs.ReplyLaws.{covers_refused}
 use Rattle.answers.proofs.covers.Goals as goal
 
+pub returns-in_err-sheet : goal.returns-in_err-sheet
+returns-in_err-sheet c = let p = err_from_is_err_and c.from_residual.result c.from_residual.ensures.1 in rw (p.1, p.2) (covers_refused _ _ _ _ c.in_err-sheet.ensures.refused)
+
 pub returns : goal.returns
-returns c = c.covers.ensures c.read_sheet-reading.ensures
+returns c = subst (λ s. CoversReply s c.args.a c.args.b c.covers.result) c.in_ok-sheet.ensures.accepted.1 c.covers.ensures

@@ -1,9 +1,6 @@
--- `asked::anchor` meets its contract: the first mark that an atom has is the clause's.
-use Rattle.asked.proofs.AnchorLaws.{anchors_at, anchors_none}
+-- The first column that an atom equates with key 0 is the clause's.
+use Rattle.asked.proofs.AnchorLaws.{anchors_at}
 use Rattle.asked.proofs.anchor.Goals as goal
 
-pub returns-then-mark-gt1 : goal.returns-then-mark-gt1
-returns-then-mark-gt1 c = anchors_at _ _ _ _ c.loop-i-test.true c.anchor_at-mark.ensures
-
-pub returns : goal.returns
-returns c = anchors_none _ _
+pub returns-in-Some : goal.returns-in-Some
+returns-in-Some c = anchors_at _ _ _ _ c.loop-i-test.true c.in-Some.ensures

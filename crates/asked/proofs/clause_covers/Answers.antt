@@ -1,27 +1,21 @@
-use borrow.Author.Rules.{rules}
-use mathlib.Core.Path.{◌≡◌}
-use native.Mathlib.Omega.{arith}
-use lib.ListN.{length}
+use Rattle.std.proofs.Common.{◌≡◌, length, arith, rules}
 use Rattle.meaning.specs.Views.{clause_of}
-use Rattle.asked.proofs.Laying.{up_to8_le, unmapped, no_atom}
-use Rattle.asked.proofs.CoverLaws.{implied_none, implied_more, implied_all, implied_not}
+use Rattle.asked.proofs.Laying.{unmapped, no_atom}
+use Rattle.asked.proofs.CoverLaws.{implied_more, implied_all, implied_not}
 use Rattle.asked.proofs.clause_covers.Goals as goal
 
-pub loop-i-init : goal.loop-i-init
-loop-i-init c = (omega arith, (let q = up_to8_le c.args.p.count in let e = c.size-n.ensures in omega arith), c.size-n.ensures, implied_none _ _ _)
-
 pub loop-i-preserved : goal.loop-i-preserved
-loop-i-preserved c = let l = c.loop-i in
+loop-i-preserved c =
     let p = c.args.p in
     let len : length p.atoms ≡ 8 = search (rules, unmapped) in
-    (omega arith, l.invariant.1, l.invariant.2, implied_more _ p.atoms _ l.i no_atom _ (omega arith) c.if-implies.true c.implies.ensures l.invariant.3)
+    implied_more _ p.atoms _ c.loop-i.i no_atom _ (omega arith) c.if-not-implies.false c.implies.ensures c.loop-i.invariant
 
-pub returns-else-implies : goal.returns-else-implies
-returns-else-implies c = let l = c.loop-i in
+pub returns-then-not-implies : goal.returns-then-not-implies
+returns-then-not-implies c =
     let a = c.args in
-    implied_not _ a.p (clause_of a.q) l.i c.size-n.result no_atom _ (search (rules, unmapped)) (omega arith) l.invariant.2 c.if-implies.false c.implies.ensures
+    implied_not _ a.p (clause_of a.q) c.loop-i.i c.min-i-end.result no_atom _ (search (rules, unmapped)) c.loop-i-test.true c.min-i-end.ensures c.if-not-implies.true c.implies.ensures
 
 pub returns : goal.returns
-returns c = let l = c.loop-i in
+returns c =
     let a = c.args in
-    implied_all _ a.p (clause_of a.q) l.i c.size-n.result (search (rules, unmapped)) (omega arith) l.invariant.2 l.invariant.3
+    implied_all _ a.p (clause_of a.q) c.loop-i.i c.min-i-end.result (search (rules, unmapped)) (omega arith) c.min-i-end.ensures c.loop-i.invariant

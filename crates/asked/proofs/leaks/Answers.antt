@@ -1,12 +1,6 @@
--- The words of the n atoms are lent, and the answer is told of the clauses that they lay.
-use borrow.Author.Rules.{rules}
-use mathlib.Core.Path.{refl, sym}
-use lib.Seq.{length-take-le}
+-- The answer on the laid words is told of the clauses that they lay.
 use Rattle.asked.proofs.Tenants.{leaks_told}
 use Rattle.asked.proofs.leaks.Goals as goal
 
-pub slice_bounds-parted-end : goal.slice_bounds-parted-end
-slice_bounds-parted-end c = sym (length-take-le _ _ (search rules))
-
 pub returns : goal.returns
-returns c = leaks_told c.before.before.before.args.words.now _ c.before.before.before.args.n _ _ refl (search rules) c.parted.ensures
+returns c = rw c.laid.ensures.ranges at (leaks_told _ _ _ c.args.n _ c.laid.ensures.atoms c.parted.ensures)

@@ -7,15 +7,6 @@ use Rattle.bits.proofs.field_at.Goals as goal
 pub returns-then-bit-gt7 : goal.returns-then-bit-gt7
 returns-then-bit-gt7 c = field_refused _ _ _ (λ i j k l. omega arith)
 
-pub returns-then-width-lt1 : goal.returns-then-width-lt1
-returns-then-width-lt1 c = field_refused _ _ _ (λ i j k l. omega arith)
-
-pub returns-then-width-gt64 : goal.returns-then-width-gt64
-returns-then-width-gt64 c = field_refused _ _ _ (λ i j k l. omega arith)
-
-pub returns-then-s-byte : goal.returns-then-s-byte
-returns-then-s-byte c = field_refused _ _ _ (λ i j k l. omega arith)
-
 pub returns-then-s-byte-2 : goal.returns-then-s-byte-2
 returns-then-s-byte-2 c = field_refused _ _ _ (λ i j k l. omega arith)
 

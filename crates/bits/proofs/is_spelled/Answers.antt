@@ -1,14 +1,19 @@
 -- `bits::is_spelled` meets its contract. At each turn x is one of the numbers from the start on exactly when it is one of those that are left.
-use native.Mathlib.Omega.{arith}
-use mathlib.Core.Path.{sym, ◌∙◌}
+use Rattle.std.proofs.Common.{◌+◌, ◌-◌, ◌*◌, ◌≡◌, ◌∙◌, sym, arith}
 use Rattle.bits.proofs.SpellLaws.{spelled_none, spelled_here, spelled_later}
 use Rattle.bits.proofs.is_spelled.Goals as goal
 
 pub returns-then-x-peek64 : goal.returns-then-x-peek64
-returns-then-x-peek64 c = sym (c.loop-left.invariant.1 ∙ spelled_here _ _ _ _ c.loop-left-test.true c.peek64.ensures c.if-x-peek64.true)
+returns-then-x-peek64 c = sym (c.loop-k.invariant ∙ spelled_here _ _ _ _ (omega arith) c.peek64.ensures c.if-x-peek64.true)
 
-pub loop-left-preserved : goal.loop-left-preserved
-loop-left-preserved c = (omega arith, c.loop-left.invariant.1 ∙ spelled_later _ _ _ _ c.loop-left-test.true (λ z. c.if-x-peek64.false (z ∙ sym c.peek64.ensures)))
+pub loop-k-preserved : goal.loop-k-preserved
+loop-k-preserved c =
+    let a = c.args in
+    let k = c.loop-k.k in
+    let more = spelled_later a.s.now a.x (a.from + 64 * k) (a.n - k) (omega arith) (λ z. c.if-x-peek64.false (z ∙ sym c.peek64.ensures)) in
+    let next : a.from + 64 * k + 64 ≡ a.from + 64 * (k + 1) = omega arith in
+    let left : a.n - k - 1 ≡ a.n - (k + 1) = omega arith in
+    c.loop-k.invariant ∙ more ∙ rw (next, left)
 
 pub returns : goal.returns
-returns c = sym (c.loop-left.invariant.1 ∙ spelled_none _ _ _ _ c.loop-left-test.false)
+returns c = sym (c.loop-k.invariant ∙ spelled_none _ _ _ _ (omega arith))

@@ -1,14 +1,8 @@
 -- `bits::is_spelled_within` meets its contract. At each turn x is one of the numbers from the start on exactly when it is one of those that are left.
-use Prim.Native.Nat.{◌+◌, ◌*◌, ◌≤◌}
-use mathlib.Core.Path.{◌≡◌}
-use lib.Dec.{eqb}
+use Rattle.std.proofs.Common.{◌+◌, ◌-◌, ◌*◌, ◌≡◌, eqb}
 use Rattle.lists.specs.Lists.{any}
 use Rattle.bits.specs.Bits.{numbers}
 use Rattle.bits.proofs.is_spelled_within.Given as goal
 
-abbrev pub invariant-loop-left : goal.invariant-loop-left
-invariant-loop-left l =
-    (l.at + 8 * l.left ≤ l.byte + 8 * l.n) × (any (eqb l.x) (numbers l.s (l.byte * 8 + l.bit) l.n) ≡ any (eqb l.x) (numbers l.s (l.at * 8 + l.bit) l.left))
-
-abbrev pub decreases-loop-left : goal.decreases-loop-left
-decreases-loop-left l = l.left
+abbrev pub invariant-loop-k : goal.invariant-loop-k
+invariant-loop-k l = any (eqb l.x) (numbers l.s (l.byte * 8 + l.bit) l.n) ≡ any (eqb l.x) (numbers l.s ((l.byte + 8 * l.k) * 8 + l.bit) (l.n - l.k))

@@ -1,10 +1,6 @@
 -- `branches::digits_of` meets its contract: the slots from place p on hold the last digits of k, and `rest` is what is left of it.
-use Prim.Native.Nat.{◌≤◌}
 use Rattle.branches.proofs.PickLaws.{Going}
 use Rattle.branches.proofs.digits_of.Given as goal
 
 abbrev pub invariant-loop-p : goal.invariant-loop-p
-invariant-loop-p l = (l.p ≤ 16) × Going l.roles l.counts l.k l.p l.slots l.rest
-
-abbrev pub decreases-loop-p : goal.decreases-loop-p
-decreases-loop-p l = l.p
+invariant-loop-p l = Going l.roles l.counts l.k l.p l.slots l.rest

@@ -1,9 +1,6 @@
-use Prim.Native.Nat.{◌≤◌, ◌-◌}
-use lib.ListN.{length}
+-- No more cases than lines have come so far, and no more lines than bytes.
+use Rattle.std.proofs.Common.{◌+◌, ◌≤◌, length}
 use Rattle.cases.proofs.run_cases.Given as goal
 
-abbrev pub invariant-loop-line : goal.invariant-loop-line
-invariant-loop-line g l = (l.passed ≤ l.line) × (l.failed ≤ l.line) × (l.line ≤ length l.s)
-
-abbrev pub decreases-loop-line : goal.decreases-loop-line
-decreases-loop-line g l = length l.s - l.line
+abbrev pub invariant-loop-i : goal.invariant-loop-i
+invariant-loop-i g l = l.passed + l.failed ≤ length l.yielded

@@ -1,7 +1,6 @@
 -- A repeat has as many elements as it says.
-use Prim.Native.Nat.{ℕ}
-use mathlib.Core.Path.{sym}
-use lib.ListN.{length-replicate}
+use Rattle.std.proofs.Common.{ℕ, sym}
+use Rattle.std.proofs.Math.ListN.{length-replicate}
 use Rattle.cases.proofs.space.Goals as goal
 
 pub returns : goal.returns

@@ -3,4 +3,4 @@ use Rattle.fiddlecomet.proofs.ToldLaws.{listing_told}
 use Rattle.fiddlecomet.proofs.fiddlecomet_listing.Goals as goal
 
 pub returns : goal.returns
-returns c = listing_told c.listing.result c.listing.ensures c.listed.ensures
+returns c = listing_told c.listing.result c.listing.ensures c.from.ensures

@@ -3,4 +3,4 @@ use Rattle.fiddlecomet.proofs.ToldLaws.{normal_form_told}
 use Rattle.fiddlecomet.proofs.fiddlecomet_normal_form.Goals as goal
 
 pub returns : goal.returns
-returns c = normal_form_told c.normal_form.result c.normal_form.ensures c.written.ensures
+returns c = normal_form_told c.normal_form.result c.normal_form.ensures c.from.ensures

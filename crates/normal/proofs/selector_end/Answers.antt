@@ -1,24 +1,23 @@
 -- The reader's end is the end that the definition gives, and lies within the sheet.
-use mathlib.Core.Path.{refl}
-use native.Mathlib.Omega.{arith}
+use Rattle.std.proofs.Common.{arith, refl, ap, ◌≡◌, ◌∙◌}
+use Rattle.bits.specs.Fields.{place_at}
+use Rattle.bits.specs.declared.Place.{Place}
+use Rattle.meaning.specs.Packed.{packed}
+use Rattle.meaning.specs.Reading.{selector}
 use Rattle.meaning.specs.Allowed.{facts_of}
-use Rattle.normal.proofs.ReadableLaws.{ends_there, not_stopped, place_byte, place_bit}
+use Rattle.normal.proofs.ReadableLaws.{selector_stands, ends_there, not_stopped}
 use Rattle.normal.proofs.selector_end.Goals as goal
 
-pub returns-in_default : goal.returns-in_default
-returns-in_default c = λ sheet x q facts short inside e. absurd (not_stopped (c.selector_at-got.ensures (facts_of sheet) c.args.p facts.columns facts.tables refl) e c.in_default.is)
+pub returns-in-Ok : goal.returns-in-Ok
+returns-in-Ok c x q e = let a = c.args in
+    let f = c.facts-f.ensures in
+    let facts = facts_of a.sheet.now in
+    let inside = (selector_stands facts (packed a.sheet.now) a.p x q e).0 in
+    let at : c.in-Ok.field-0-1 ≡ place_at q = ends_there (ap (λ s. selector 6 facts s a.p) c.bytes.ensures.packed ∙ e) (c.in-Ok.ensures facts a.p f.columns f.tables refl) in
+    omega (arith, ap (λ (z : Place). z.byte) at, ap (λ (z : Place). z.bit) at, c.saturating_mul.ensures, c.saturating_add.ensures, inside, c.bytes.ensures.allowed.short)
 
-pub returns-then-q-gt16384 : goal.returns-then-q-gt16384
-returns-then-q-gt16384 c = λ sheet x q facts short inside e.
-    let pl = ends_there (c.selector_at-got.ensures (facts_of sheet) c.args.p facts.columns facts.tables refl) e c.in-At.is in
-    absurd (omega (arith, place_byte c.in-At.q q pl))
-
-pub returns-then-q-gt7 : goal.returns-then-q-gt7
-returns-then-q-gt7 c = λ sheet x q facts short inside e.
-    let pl = ends_there (c.selector_at-got.ensures (facts_of sheet) c.args.p facts.columns facts.tables refl) e c.in-At.is in
-    absurd (omega (arith, place_bit c.in-At.q q pl))
-
-pub returns : goal.returns
-returns c = λ sheet x q facts short inside e.
-    let pl = ends_there (c.selector_at-got.ensures (facts_of sheet) c.args.p facts.columns facts.tables refl) e c.in-At.is in
-    omega (arith, place_byte c.in-At.q q pl, place_bit c.in-At.q q pl)
+pub returns-in-Err : goal.returns-in-Err
+returns-in-Err c x q e = let a = c.args in
+    let f = c.facts-f.ensures in
+    let facts = facts_of a.sheet.now in
+    absurd (not_stopped (ap (λ s. selector 6 facts s a.p) c.bytes.ensures.packed ∙ e) (c.in-Err.ensures facts a.p f.columns f.tables refl))

@@ -1,18 +1,19 @@
 -- Five fields, one behind the other.
-use native.Mathlib.Omega.{arith}
-use mathlib.Core.List.{[], ◌++◌}
+use Rattle.std.proofs.Common.{arith, [], ◌++◌}
 use Rattle.bits.specs.Bits.{bits}
-use Rattle.normal.proofs.FactLaws.{wrote_start, counts_written}
+use Rattle.normal.proofs.FactLaws.{counts_written}
 use Rattle.normal.proofs.write_counts.Goals as goal
 
-pub returns : goal.returns
-returns c = let a = c.args in
-    let f = a.f in
-    λ sheet o facts np allowed e. counts_written sheet f a.policies o c.write.new.out c.write.result facts np
-    (c.write.ensures o (((([] ++ bits 4 1) ++ bits 5 f.columns) ++ bits 4 f.keys) ++ bits 5 f.tables)
-    (c.write-d.ensures o ((([] ++ bits 4 1) ++ bits 5 f.columns) ++ bits 4 f.keys)
-    (c.write-c.ensures o (([] ++ bits 4 1) ++ bits 5 f.columns)
-    (c.write-b.ensures o ([] ++ bits 4 1) (c.write-a.ensures o [] (wrote_start o a.out.now e) (omega arith)) (omega (arith, facts.columns, allowed.columns)))
-    (omega (arith, facts.keys, allowed.keys.1)))
-    (omega (arith, facts.tables, allowed.tables.1)))
-    (omega (arith, np, allowed.policies)))
+pub returns-clause-wrote : goal.returns-clause-wrote
+returns-clause-wrote c = let m = c.columns.ensures in
+    let k = c.keys.ensures in
+    let t = c.tables.ensures in
+    let n = c.policies.ensures in
+    λ o e. counts_written c.args.sheet.now o c.write-5.new.self.out.now c.write-5.new.self.bits m.number k.number t.number n.number
+    (c.write-5.ensures.wrote o (((([] ++ bits 4 1) ++ bits 5 c.columns.result) ++ bits 4 c.keys.result) ++ bits 5 c.tables.result)
+    (c.write-4.ensures.wrote o ((([] ++ bits 4 1) ++ bits 5 c.columns.result) ++ bits 4 c.keys.result)
+    (c.write-3.ensures.wrote o (([] ++ bits 4 1) ++ bits 5 c.columns.result)
+    (c.write-2.ensures.wrote o ([] ++ bits 4 1) (c.write.ensures.wrote o [] e (omega arith)) (omega (arith, m.few)))
+    (omega (arith, k.few)))
+    (omega (arith, t.few)))
+    (omega (arith, n.few)))

@@ -1,7 +1,30 @@
--- The two fields as they are read, judged.
-use Rattle.place.proofs.AtomHeadLaws.{atom_head_read}
+-- Each field's answer, in the order of reading, and each test on it.
+use Rattle.values.specs.Reads.{answered, stopped}
+use Rattle.values.proofs.ReadLaws.{handed}
+use Rattle.place.proofs.AtomHeadLaws.{judged_small, first_lost, variable_refused, operator_lost, operator_wrong, operator_unfit, head_got}
 use Rattle.place.proofs.atom_head.Goals as goal
 
-pub returns : goal.returns
-returns c = λ facts p columns keys kinds here.
-    atom_head_read facts _ p _ _ _ columns keys kinds _ _ _ here c.atom_fields.ensures c.judged.ensures
+pub returns-in_err-next_field-clause-read : goal.returns-in_err-next_field-clause-read
+returns-in_err-next_field-clause-read c facts p e k are h = handed _ _ c.from_residual.ensures.1 (first_lost facts _ p e k are h c.in_err-next_field.ensures)
+
+pub returns-in_err-variable-clause-read : goal.returns-in_err-variable-clause-read
+returns-in_err-variable-clause-read c facts p e k are h = handed _ _ c.from_residual-in_err-variable.ensures.1 (variable_refused facts _ p e k are h c.in_ok-next_field.ensures c.in_err-variable.ensures)
+
+pub returns-in_err-operator-clause-read : goal.returns-in_err-operator-clause-read
+returns-in_err-operator-clause-read c facts p e k are h =
+    handed _ _ c.from_residual-in_err-operator.ensures.1 (operator_lost facts _ p e k are h c.in_ok-next_field.ensures c.in_ok-variable.ensures c.in_err-operator.ensures)
+
+pub returns-then-operator-ge9-clause-read : goal.returns-then-operator-ge9-clause-read
+returns-then-operator-ge9-clause-read c facts p e k are h =
+    stopped (operator_wrong facts _ p e k are h c.in_ok-next_field.ensures c.in_ok-variable.ensures c.in_ok-operator.ensures c.if-operator-ge9.true)
+
+pub returns-then-fits_kind-clause-read : goal.returns-then-fits_kind-clause-read
+returns-then-fits_kind-clause-read c facts p e k are h =
+    answered (head_got facts _ p e k are h c.in_ok-next_field.ensures c.in_ok-variable.ensures c.in_ok-operator.ensures c.if-operator-ge9.false (rw (← c.kind_at.ensures) c.if-fits_kind.ensures))
+
+pub returns-then-fits_kind-clause-fit : goal.returns-then-fits_kind-clause-fit
+returns-then-fits_kind-clause-fit c = (judged_small c.in_ok-next_field.field-0 c.args.columns c.args.keys c.in_ok-variable.ensures, c.if-operator-ge9.false)
+
+pub returns-else-fits_kind-clause-read : goal.returns-else-fits_kind-clause-read
+returns-else-fits_kind-clause-read c facts p e k are h =
+    stopped (operator_unfit facts _ p e k are h c.in_ok-next_field.ensures c.in_ok-variable.ensures c.in_ok-operator.ensures c.if-operator-ge9.false (rw (← c.kind_at.ensures) c.if-fits_kind.ensures))

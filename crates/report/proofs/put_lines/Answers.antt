@@ -1,24 +1,16 @@
 -- The first n lines are written.
-use borrow.Author.Rules.{rules}
-use Prim.Native.Nat.{◌*◌}
-use native.Mathlib.Omega.{arith}
-use mathlib.Core.Path.{◌≡◌, sym}
+use Rattle.std.proofs.Common.{arith, refl, ◌∙◌}
 use Rattle.report.proofs.LineLaws.{lines_start, lines_step}
 use Rattle.report.proofs.put_lines.Goals as goal
 
 pub loop-n-init : goal.loop-n-init
-loop-n-init c = (search rules, search rules, search rules, search rules, λ s a e. lines_start s _ _)
+loop-n-init c = record { short = record { same = refl; short = omega arith; lent = refl }; text = lines_start _ _ }
 
 pub loop-n-preserved : goal.loop-n-preserved
 loop-n-preserved c =
     let i = c.loop-n.invariant in
-    let w = c.put_line-p.ensures in
-    (search rules, search rules, omega arith, search rules, λ s a e. lines_step s c.loop-n.n (i.4 s a e) (w.text s a (omega arith) (omega arith)))
-
-pub returns-clause-text : goal.returns-clause-text
-returns-clause-text c =
-    let e : c.loop-n.n ≡ c.args.tables * 4 = omega arith in
-    λ s a f. rw (sym e) (c.loop-n.invariant.4 s a f)
-
-pub returns-clause-short : goal.returns-clause-short
-returns-clause-short c = omega arith
+    let w = c.put_line.ensures in
+    record {
+      short = record { same = w.short.same ∙ i.short.same; short = omega arith; lent = w.short.lent ∙ i.short.lent };
+      text = lines_step _ c.loop-n.n i.text (w.text c.tables.ensures.allowed (omega arith) (omega arith));
+    }

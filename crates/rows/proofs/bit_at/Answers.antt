@@ -3,4 +3,4 @@ use Rattle.rows.proofs.ContentLaws.{bit_number}
 use Rattle.rows.proofs.bit_at.Goals as goal
 
 pub returns : goal.returns
-returns c = bit_number _ _ c.wide.ensures
+returns c = bit_number _ _ c.from.ensures

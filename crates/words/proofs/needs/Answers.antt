@@ -1,21 +1,17 @@
-use borrow.Author.Rules.{rules}
-use native.Mathlib.Omega.{arith}
-use mathlib.Core.Path.{refl, sym, ◌∙◌}
-use lib.ListN.{length-set}
-use Rattle.words.proofs.NeedLaws.{needs_none, needs_skip, needs_add, needs_done}
+-- An atom that wants a value marks its two variables.
+use Rattle.std.proofs.Common.{arith, sym}
+use Rattle.std.proofs.lemmas.Grind.{common_steps}
+use Rattle.words.proofs.NeedLaws.{needs_skip, needs_add}
 use Rattle.words.proofs.needs.Goals as goal
-
-pub loop-i-init : goal.loop-i-init
-loop-i-init c = (omega arith, refl, search rules, needs_none _ _)
-
-pub loop-i-preserved-then-wanting : goal.loop-i-preserved-then-wanting
-loop-i-preserved-then-wanting c = let l = c.loop-i in
-    (omega arith, refl, simp length-set l.invariant.2, needs_add _ _ l.need l.i _ _ c.var_at-v.ensures.0 c.mate_at-p.ensures.0 (omega arith) (omega arith) (omega arith) (sym c.wanting.ensures ∙ c.if-wanting.true) l.invariant.3)
+use Rattle.words.proofs.needs.Goals.{then-wanting, else-wanting}
 
 pub loop-i-preserved : goal.loop-i-preserved
-loop-i-preserved c = let l = c.loop-i in
-    (omega arith, refl, l.invariant.2, needs_skip _ _ l.need l.i l.invariant.3 (sym c.wanting.ensures ∙ c.if-wanting.false))
-
-pub returns : goal.returns
-returns c = let l = c.loop-i in
-    needs_done _ _ _ l.i _ (omega arith) l.invariant.3
+loop-i-preserved c =
+    let h = c.loop-i.invariant in
+    record {
+      size = elim c.if-wanting.branch [ then-wanting w ↦ grind (arith, common_steps) | else-wanting w ↦ grind (arith, common_steps) ];
+      marked = elim c.if-wanting.branch [
+        | then-wanting w ↦ rw w.need-is (needs_add _ _ _ _ _ _ w.var_at.ensures.0 w.mate_at.ensures.0 (omega arith) (omega arith) c.loop-i-test.true (sym w.if-wanting.ensures) h.marked)
+        | else-wanting w ↦ rw w.need-is (needs_skip _ _ _ _ h.marked (sym w.if-wanting.ensures))
+      ];
+    }

@@ -1,11 +1,12 @@
-use Prim.Native.Nat.{ℕ, ◌≤◌, ◌<◌, ◌-◌}
-use mathlib.Core.Path.{◌≡◌}
-use lib.ListN.{length, get_or}
+-- The variables below the index are renamed, the others not yet.
+use Rattle.std.proofs.Common.{◌≡◌, ℕ, ◌<◌, ◌≤◌, length, get_or}
 use Rattle.words.specs.Ties.{renamed}
 use Rattle.words.proofs.rename.Given as goal
 
-abbrev pub invariant-loop-v : goal.invariant-loop-v
-invariant-loop-v l = (l.v ≤ 32) × (length l.out ≡ 32) × ((w : ℕ) → w < l.v → get_or l.out w 0 ≡ renamed l.a l.b (get_or l.rep w 0))
-
-abbrev pub decreases-loop-v : goal.decreases-loop-v
-decreases-loop-v l = 32 - l.v
+abbrev pub invariant-loop-l : goal.invariant-loop-l
+invariant-loop-l l =
+    record {
+      size : length l.rep ≡ 32;
+      done : (w : ℕ) → w < l.l-index → get_or l.rep w 0 ≡ renamed l.a l.b (get_or l.initial.rep w 0);
+      rest : (w : ℕ) → l.l-index ≤ w → get_or l.rep w 0 ≡ get_or l.initial.rep w 0;
+    }

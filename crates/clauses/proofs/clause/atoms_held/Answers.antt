@@ -1,34 +1,28 @@
--- `clauses::clause::atoms_held` meets its contract. The loop's invariant: the first i atoms were found, and the set was asked for each of them.
-use native.Mathlib.Omega.{arith}
-use mathlib.Core.Path.{◌≡◌, refl, ap, ◌∙◌}
-use Rattle.meaning.specs.Reading.{atom}
-use Rattle.clauses.specs.Ends.{ended}
-use Rattle.clauses.specs.Facts.{atom_held}
-use Rattle.clauses.proofs.TurnLaws.{ends_at, ends_refused, ends_lost, turns_none, turns_more, turns_lost, turns_done}
+-- `clauses::clause::atoms_held` meets its contract. The loop's invariant: the first atoms were found, and the set was asked for each of them.
+use Rattle.std.proofs.Common.{◌≡◌, refl, ap, ◌∙◌, arith}
 use Rattle.lists.proofs.BoolLaws.{every_more}
+use Rattle.meaning.specs.Reading.{atom}
+use Rattle.values.specs.Reads.{answered}
+use Rattle.values.proofs.ReadLaws.{handed, got, lost}
+use Rattle.clauses.specs.Facts.{atom_held}
+use Rattle.clauses.proofs.TurnLaws.{turns_none, turns_more, turns_lost, turns_done}
 use Rattle.clauses.proofs.clause.atoms_held.Goals as goal
 
-pub loop-i-init : goal.loop-i-init
-loop-i-init c = (omega arith, λ facts o F e. turns_none (atom facts) c.args.s.now o _ e refl)
+pub loop-init : goal.loop-init
+loop-init c facts o F e = turns_none (atom facts) c.args.s.now o _ e refl
 
-pub returns-in_default : goal.returns-in_default
-returns-in_default c facts p F e = let l = c.loop-i in
-    let s = c.args.s.now in
-    let g = l.invariant.1 facts p F e in
-    ends_lost c.in_default.is (turns_lost (atom facts) s l.i p g _ (ends_refused (c.atom_at-got.ensures facts g.place F g.here) c.in_default.is) c.loop-i-test.true)
+pub returns-in_err-atom : goal.returns-in_err-atom
+returns-in_err-atom c facts p F e =
+    let g = c.loop.invariant facts p F e in
+    handed _ _ c.from_residual.ensures.1 (turns_lost (atom facts) c.args.s.now _ p g _ (lost (c.in_err-atom.ensures facts g.place F g.here)) c.loop-test.true)
 
-pub loop-i-preserved : goal.loop-i-preserved
-loop-i-preserved c = (
-  omega arith,
-  λ facts p F e.
-      let l = c.loop-i in
-      let a = c.args in
-      let g = l.invariant.1 facts p F e in
-      let h = ends_at (c.atom_at-got.ensures facts g.place F g.here) c.in-At.is in
-      turns_more (atom facts) a.s.now l.i p g _ h.read h.here (every_more (atom_held a.columns) g.item h.item g.holds (c.atom_held-held.ensures ∙ ap (atom_held a.columns) h.holds)),
-)
+pub loop-preserved : goal.loop-preserved
+loop-preserved c facts p F e =
+    let g = c.loop.invariant facts p F e in
+    let h = got (c.in_ok-atom.ensures facts g.place F g.here) in
+    turns_more (atom facts) c.args.s.now c.loop.counter p g _ h.read h.here (every_more (atom_held c.args.columns) g.item h.item g.holds (c.atom_held-held.ensures ∙ ap (atom_held c.args.columns) h.holds))
 
 pub returns : goal.returns
-returns c facts p F e = let a = c.args in
-    let done : c.loop-i.i ≡ a.count = omega arith in
-    ended (turns_done (atom facts) a.s.now c.loop-i.i p (c.loop-i.invariant.1 facts p F e) _ _ done (λ xs h. h))
+returns c facts p F e =
+    let done : c.loop.counter ≡ c.args.count = omega arith in
+    answered (turns_done (atom facts) c.args.s.now _ p (c.loop.invariant facts p F e) _ _ done (λ xs h. h))

@@ -1,16 +1,20 @@
 -- `clauses::fields::mate_at` meets its contract: a variable that is found is below 24, so its kind is the one of the facts.
-use mathlib.Core.Path.{refl, sym, ap, ◌∙◌}
-use Rattle.values.specs.Reads.{field_of}
-use Rattle.values.proofs.ReadLaws.{found_by, refused_by}
+use Rattle.std.proofs.Common.{sym, ◌∙◌}
+use Rattle.values.specs.Reads.{answered, stopped}
+use Rattle.values.proofs.ReadLaws.{handed, got, lost}
 use Rattle.place.proofs.AtomHeadLaws.{kind_is}
-use Rattle.clauses.proofs.FieldLaws.{value_is, refusal_is, mate_lost, mate_like, mate_unlike, variable_small}
+use Rattle.clauses.proofs.FieldLaws.{mate_lost, mate_got, mate_unlike, got_small}
 use Rattle.clauses.proofs.fields.mate_at.Goals as goal
 
-pub returns-in_default : goal.returns-in_default
-returns-in_default c facts p v F k e = refusal_is _ c.in_default.is (mate_lost facts v _ p (refused_by _ (c.variable_at-got.ensures facts p F e) c.in_default.is))
+pub returns-in_err-mate : goal.returns-in_err-mate
+returns-in_err-mate c facts p v F k e = handed _ _ c.from_residual.ensures.1 (mate_lost facts v _ p (lost (c.in_err-mate.ensures facts p F e)))
 
-pub returns-then-kind_of-kind : goal.returns-then-kind_of-kind
-returns-then-kind_of-kind c facts p v F k e = found_by _ (c.variable_at-got.ensures facts p F e) c.in-Value.is (λ o i j. value_is _ refl j (mate_like facts v _ p i (k ∙ sym c.if-kind_of-kind.true ∙ c.kind_of.ensures ∙ kind_is facts _ F.kinds _ (variable_small facts _ p _ o i))))
+pub returns-then-kind_at-kind : goal.returns-then-kind_at-kind
+returns-then-kind_at-kind c facts p v F k e =
+    let g = got (c.in_ok-mate.ensures facts p F e) in
+    answered (mate_got facts v _ p g (k ∙ sym c.if-kind_at-kind.true ∙ c.kind_at.ensures ∙ kind_is facts _ F.kinds _ (got_small facts v _ p g)))
 
-pub returns : goal.returns
-returns c facts p v F k e = found_by _ (c.variable_at-got.ensures facts p F e) c.in-Value.is (λ o i j. sym (ap field_of (mate_unlike facts v _ p i (λ h. c.if-kind_of-kind.false (c.kind_of.ensures ∙ kind_is facts _ F.kinds _ (variable_small facts _ p _ o i) ∙ sym h ∙ k)))))
+pub returns-else-kind_at-kind : goal.returns-else-kind_at-kind
+returns-else-kind_at-kind c facts p v F k e =
+    let g = got (c.in_ok-mate.ensures facts p F e) in
+    stopped (mate_unlike facts v _ p g (λ h. c.if-kind_at-kind.false (c.kind_at.ensures ∙ kind_is facts _ F.kinds _ (got_small facts v _ p g) ∙ sym h ∙ k)))

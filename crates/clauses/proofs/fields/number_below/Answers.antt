@@ -1,15 +1,15 @@
 -- `clauses::fields::number_below` meets its contract: the field is the definition's, and so is the test on it.
-use mathlib.Core.Path.{refl, sym, ap}
-use Rattle.values.specs.Reads.{field_of}
-use Rattle.values.proofs.ReadLaws.{field_found, field_lost}
-use Rattle.clauses.proofs.FieldLaws.{value_is, refusal_is, number_lost, number_below_lem, number_high}
+use Rattle.std.proofs.Common.{sym, ◌∙◌}
+use Rattle.values.specs.Reads.{answered, stopped}
+use Rattle.values.proofs.ReadLaws.{field_got, field_lost}
+use Rattle.clauses.proofs.FieldLaws.{number_lost, number_high, number_got}
 use Rattle.clauses.proofs.fields.number_below.Goals as goal
 
 pub returns-in_default : goal.returns-in_default
-returns-in_default c p e l h = refusal_is _ c.in_default.is (number_lost _ _ _ _ (field_lost _ _ p _ l h c.field_at-got.ensures e c.in_default.is))
+returns-in_default c p e l h = stopped (number_lost _ _ _ _ (field_lost _ _ p _ l h e (sym c.in_default.is ∙ c.field_at.ensures)))
 
-pub returns-then-n-most : goal.returns-then-n-most
-returns-then-n-most c p e l h = field_found _ _ p _ l h c.field_at-got.ensures e c.in-Value.is (λ o i j. value_is _ refl j (number_below_lem _ _ _ _ i c.if-n-most.true))
+pub returns-then-most-n : goal.returns-then-most-n
+returns-then-most-n c p e l h = stopped (number_high _ _ _ _ (field_got _ _ p _ l h e (sym c.in-Ok.is ∙ c.field_at.ensures)) c.if-most-n.true)
 
 pub returns : goal.returns
-returns c p e l h = field_found _ _ p _ l h c.field_at-got.ensures e c.in-Value.is (λ o i j. sym (ap field_of (number_high _ _ _ _ i c.if-n-most.false)))
+returns c p e l h = answered (number_got _ _ _ _ (field_got _ _ p _ l h e (sym c.in-Ok.is ∙ c.field_at.ensures)) c.if-most-n.false)

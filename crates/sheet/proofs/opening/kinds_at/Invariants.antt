@@ -1,15 +1,13 @@
 -- `sheet::opening::kinds_at` meets its contract. The loop's invariant: the first i kinds were found, and stand by their numbers from `from` on.
-use Prim.Native.Nat.{ℕ, ◌≤◌, ◌-◌}
-use mathlib.Core.Path.{◌≡◌}
-use lib.ListN.{length}
+use Rattle.std.proofs.Common.{ℕ, ◌≡◌, length}
 use Rattle.bits.specs.Fields.{place_at}
 use Rattle.meaning.specs.Reading.{times, kind}
-use Rattle.clauses.specs.Ends.{Got}
+use Rattle.values.specs.Reads.{Got}
 use Rattle.sheet.specs.Fronts.{KindsPut}
 use Rattle.sheet.proofs.opening.kinds_at.Given as goal
 
 abbrev pub invariant-loop-i : goal.invariant-loop-i
-invariant-loop-i l = (l.i ≤ l.count) × (length l.kinds ≡ 24) × ((o : ℕ) → l.initial.p ≡ place_at o → Got (times l.i kind l.s o) (KindsPut l.from l.initial.kinds l.kinds) l.p)
-
-abbrev pub decreases-loop-i : goal.decreases-loop-i
-decreases-loop-i l = l.count - l.i
+invariant-loop-i l = record {
+  room : length l.kinds ≡ 24;
+  found : (o : ℕ) → l.initial.p ≡ place_at o → Got (times l.i kind l.s o) (KindsPut l.from l.initial.kinds l.kinds) l.p;
+}

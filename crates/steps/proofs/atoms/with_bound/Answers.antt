@@ -1,5 +1,5 @@
 -- The bound is the first of the values.
-use mathlib.Core.Path.{refl}
+use Rattle.std.proofs.Common.{refl}
 use Rattle.meaning.specs.Views.{atom_of}
 use Rattle.steps.proofs.atoms.with_bound.Goals as goal
 

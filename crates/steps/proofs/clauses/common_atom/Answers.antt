@@ -1,15 +1,16 @@
--- An in_list is left with the common values; every other atom stays.
-use mathlib.Core.Path.{ap, ◌∙◌}
+-- An in-list is left with the common values; the others stay.
+use Rattle.std.proofs.Common.{◌∙◌, ap, map}
 use Rattle.lists.specs.Lists.{keep}
-use Rattle.meaning.specs.Atoms.{in_list}
-use Rattle.meaning.specs.Steps.{on, is_common}
-use Rattle.meaning.specs.Views.{clause_of}
-use Rattle.steps.proofs.AtomLaws.{share_other, share_list}
+use Rattle.meaning.specs.Steps.{is_common}
+use Rattle.meaning.specs.Views.{atom_of}
+use Rattle.steps.proofs.AtomLaws.{share_other, share_with}
 use Rattle.steps.proofs.clauses.common_atom.Goals as goal
 
-pub returns-then-o-ne1 : goal.returns-then-o-ne1
-returns-then-o-ne1 c = share_other (clause_of c.args.c) c.args.a c.if-o-ne1.true
+pub returns-then-a-ne1 : goal.returns-then-a-ne1
+returns-then-a-ne1 c = share_other _ c.args.a c.if-a-ne1.true
 
 pub returns : goal.returns
-returns c = c.with_list.ensures ∙ ap (λ ns. on c.args.a.variable (in_list ns)) (c.common_values.ensures ∙ ap (keep (is_common (clause_of c.args.c) c.args.a.variable)) c.list_of.ensures.1)
-    ∙ share_list (clause_of c.args.c) c.args.a c.if-o-ne1.false
+returns c =
+    let w = c.with_list.ensures in
+    share_with (map atom_of c.args.atoms.now) c.args.a c.with_list.result c.if-a-ne1.false w.variable w.operator
+    (w.list ∙ c.common_values.ensures ∙ ap (keep (is_common (map atom_of c.args.atoms.now) c.args.a.variable)) c.list_of.ensures.list)

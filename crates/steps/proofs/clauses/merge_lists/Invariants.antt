@@ -1,19 +1,12 @@
--- What is written, with what is left to merge, gives the whole.
-use Prim.Native.Nat.{◌-◌, ◌≤◌}
-use mathlib.Core.Path.{◌≡◌}
-use mathlib.Core.List.{◌++◌, map}
-use lib.ListN.{length, drop}
+-- The atoms passed are written, merged.
+use Rattle.std.proofs.Common.{◌≡◌, length, map, take}
 use Rattle.meaning.specs.Atoms as m
-use Rattle.meaning.specs.Steps.{on, shared, merged}
-use Rattle.meaning.specs.Views.{clause_of}
+use Rattle.meaning.specs.Views.{atom_of}
+use Rattle.meaning.specs.Steps.{on, shared}
 use Rattle.steps.proofs.clauses.merge_lists.Given as goal
 
 abbrev pub sharing : m.Clause → m.Atom → m.Atom
 sharing c a = on a.variable (shared c a.variable a.operator)
 
-abbrev pub invariant-loop-i : goal.invariant-loop-i
-invariant-loop-i l =
-    (length l.c.atoms ≡ 8) × (l.i ≤ l.c.count) × (l.c.count ≤ 8) × (l.out.count ≡ l.i) × (clause_of l.out ++ map (sharing (clause_of l.c)) (drop l.i (clause_of l.c)) ≡ merged (clause_of l.c))
-
-abbrev pub decreases-loop-i : goal.decreases-loop-i
-decreases-loop-i l = l.n - l.i
+abbrev pub invariant-loop-a : goal.invariant-loop-a
+invariant-loop-a l = record { many : length l.out ≡ l.a-index; written : map atom_of l.out ≡ map (sharing (map atom_of l.atoms)) (map atom_of (take l.a-index l.atoms)) }

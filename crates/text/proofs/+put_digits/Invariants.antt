@@ -1,5 +1,0 @@
--- One digit fewer is left to write at each call.
-use Rattle.text.proofs.+put_digits.Given as goal
-
-abbrev pub decreases-put_digits : goal.decreases-put_digits
-decreases-put_digits l = l.digits
