@@ -1,12 +1,13 @@
 -- Listing row by row: which rows are written so far, and what the output holds of them.
 use Prim.Native.Nat.{ℕ, ◌+◌, ◌-◌, ◌/◌, ◌%◌, ◌<◌, ◌≤◌}
+use native.Mathlib.Numerals.{add-one}
 use native.Mathlib.Decide.{dec_lt}
 use native.Mathlib.Omega.{arith}
 use mathlib.Core.Path.{◌≡◌, refl, sym, ap, subst, ◌∙◌}
 use mathlib.Core.Bool.{Bool, true, false, cond, ◌&&◌}
 use mathlib.Core.List.{List, [], ◌∷◌, ◌++◌, append-nil}
-use lib.ListN.{length, take, drop, length-append, length-drop}
-use lib.Seq.{paste, take-append_seam, drop-append-add, drop-drop, length-take-le}
+use lib.ListN.{length, get_or, take, drop, set, length-append, length-drop}
+use lib.Seq.{paste, paste-suc, get_or-drop, take-append_seam, drop-append-add, drop-drop, length-take-le}
 use borrow.Author.Tests.{lt-ltb, le-ltb}
 use Rattle.lists.specs.Lists.{every, each}
 use Rattle.meaning.specs.declared.Content.TheVariants.{Null}
@@ -27,6 +28,15 @@ use Rattle.admission.specs.Plan.{PlanLaid}
 use Rattle.listing.specs.Ready.{admitted, PlanOf, Ready}
 use Rattle.lists.proofs.ListLaws.{each_append}
 use Rattle.listing.proofs.PlanLaws.{keep_append}
+
+-- a byte more is copied
+pub copy_on : (list out now : List ℕ) (a at i : ℕ) → now ≡ paste out at (drop a list) i → at + i < length out → a + i < length list → set now (at + i) (get_or list (a + i) 0) ≡ paste out at (drop a list) (i + 1)
+copy_on list out now a at i e l m =
+    let n = length-drop a list in
+    ap (λ o. set o (at + i) (get_or list (a + i) 0)) e
+    ∙ ap (λ v. set (paste out at (drop a list) i) (at + i) v) (sym (get_or-drop a list i 0))
+    ∙ paste-suc out at (drop a list) i 0 l (omega arith)
+    ∙ ap (paste out at (drop a list)) (sym (add-one i))
 
 -- what is written behind bytes that are written already
 over_more : (bytes out list : List ℕ) (m : ℕ) → m ≤ length list → paste (over bytes out) (length bytes) list m ≡ over (bytes ++ take m list) out

@@ -20,12 +20,14 @@ use sheet::Accepted;
 
 pub mod plans;
 
-// Copies bytes a to e of the rows to the output at `at`.
+// Copies bytes a to e of the rows to the output at `at`. (A slice's own copy would want `memmove` of the host, which the archive did not need.)
 fn copy(rows: &[u8], a: usize, e: usize, out: &mut [u8], at: usize)
     requires { (a ≤ e) × (e ≤ length rows.now) × (at + (e - a) ≤ length out.old) }
     ensures { out.new ≡ paste out.old at (drop a rows.now) (e - a) }
 {
-    out[at..at + (e - a)].copy_from_slice(&rows[a..e]);
+    for i in 0..e - a {
+        out[at + i] = rows[a + i];
+    }
 }
 
 // Lists the admitted rows of a list that is of the form.
