@@ -191,7 +191,8 @@ head_small facts s p v o q e = from (reading.field 5 s p) e
     there u r h false g = no_read g
 
     below : (u r : ℕ) (b : Bool) → ltb u 24 ≡ b
-        → on_read (on_read (need b 5 s r) (λ x r. on_read (need (is_there u (length facts.columns) (length facts.keys)) 6 s r) (λ x r. found u r))) (goes facts s) ≡ found (head_on v o) q → (v < 24) × (o < 9)
+        → on_read (on_read (need b 5 s r) (λ x r. on_read (need (is_there u (length facts.columns) (length facts.keys)) 6 s r) (λ x r. found u r))) (goes facts s) ≡ found (head_on v o) q
+        → (v < 24) × (o < 9)
     below u r true h g = there u r (ltb-true u 24 h) (is_there u (length facts.columns) (length facts.keys)) g
     below u r false h g = no_read g
 

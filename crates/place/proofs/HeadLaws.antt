@@ -253,12 +253,12 @@ counts_small s n q e = from (field 4 s 0) e
     rest : (o : ℕ) → columns_from s o ≡ found n q → CountsSmall n
     rest o = found_count 5 0 16 s o (keys_from s) n q λ x o hx. found_count 4 1 8 s o (tables_from s x) n q λ k o hk. found_count 5 1 16 s o (policies_from s x k) n q λ t o ht.
         found_count 5 0 16 s o (λ p o. found (counts_on x k t p) o) n q λ p o hp g.
-            let same : counts_on x k t p ≡ n = cc in
-            let a : x ≡ n.columns = ap (λ (z : Counts). z.columns) same in
-            let b : k ≡ n.keys = ap (λ (z : Counts). z.keys) same in
-            let c : t ≡ n.tables = ap (λ (z : Counts). z.tables) same in
-            let d : p ≡ n.policies = ap (λ (z : Counts). z.policies) same in
-            record { columns = omega arith; keys = omega arith; tables = omega arith; policies = omega arith }
+        let same : counts_on x k t p ≡ n = cc in
+        let a : x ≡ n.columns = ap (λ (z : Counts). z.columns) same in
+        let b : k ≡ n.keys = ap (λ (z : Counts). z.keys) same in
+        let c : t ≡ n.tables = ap (λ (z : Counts). z.tables) same in
+        let d : p ≡ n.policies = ap (λ (z : Counts). z.policies) same in
+        record { columns = omega arith; keys = omega arith; tables = omega arith; policies = omega arith }
 
     one : (o : ℕ) (b : Bool) → on_read (need b 3 s o) (λ z o. columns_from s o) ≡ found n q → CountsSmall n
     one o true g = rest o g
