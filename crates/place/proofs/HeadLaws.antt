@@ -215,6 +215,9 @@ pub atom_fields_are : (s : List ℕ) (at : Place) {v o : Result ℕ Refusal} {p 
     → (v ≡ taken_of (field_at s at 5)) × (o ≡ taken_of (field_at s (place_after (field_at s at 5) at) 4)) × (q ≡ place_after (field_at s (place_after (field_at s at 5) at) 4) (place_after (field_at s at 5) at))
 atom_fields_are s at (e, f) (g, h) = (e, g ∙ ap (λ z. taken_of (field_at s z 4)) f, h ∙ ap (λ z. place_after (field_at s z 4) z) f)
 
+abbrev pub counts_on : ℕ → ℕ → ℕ → ℕ → Counts
+counts_on c k t p = record { columns = c; keys = k; tables = t; policies = p }
+
 -- a count that is found is allowed
 found_count : (w low high : ℕ) (s : List ℕ) (p : ℕ) {B : Type 0} (k : ℕ → ℕ → Read B) (b : B) (q : ℕ) {X : Type 0}
     → ((n r : ℕ) → n ≤ high → k n r ≡ found b q → X) → on_read (count w low high s p) k ≡ found b q → X
@@ -246,9 +249,6 @@ counts_small s n q e = from (field 4 s 0) e
   where
     no_read : {X : Type 0} {m : ℕ} → ◌≡◌ {A = Read Counts} (refused m) (found n q) → X
     no_read g = let z : ◌≡◌ {A = ℕ} 0 1 = cc in absurd (omega arith)
-
-    counts_on : ℕ → ℕ → ℕ → ℕ → Counts
-    counts_on c k t p = record { columns = c; keys = k; tables = t; policies = p }
 
     rest : (o : ℕ) → columns_from s o ≡ found n q → CountsSmall n
     rest o = found_count 5 0 16 s o (keys_from s) n q λ x o hx. found_count 4 1 8 s o (tables_from s x) n q λ k o hk. found_count 5 1 16 s o (policies_from s x k) n q λ t o ht.
