@@ -122,6 +122,9 @@ module _ (facts : Sheet) (s : List ℕ) (p : ℕ) {at : Place} {columns keys : �
         pub head_got : o < 9 → true ≡ fits_kind (get_or kinds w 0) o → Got (atom_head facts s p) (λ x. record { variable = w; operator = o } ≡ x) r
         head_got h f = record { item = record { variable = w; operator = o }; place = go.place; read = at_tests ∙ rw (lt-ltb o 9 h, fit f); here = go.here; holds = refl }
 
+abbrev pub head_on : ℕ → ℕ → AtomHead
+head_on v o = record { variable = v; operator = o }
+
 -- an atom is its head and what follows it
 pub atom_by_head : (facts : Sheet) (s : List ℕ) (p : ℕ)
     → atom facts s p ≡ on_read (atom_head facts s p) (λ h q. on_read (operand facts h.variable h.operator s q) (λ x r. found (on h.variable x) r))
@@ -130,9 +133,6 @@ atom_by_head facts s p = from (variable facts s p)
   where
     rest : ℕ → ℕ → ℕ → Read Atom
     rest v o q = on_read (operand facts v o s q) (λ x r. found (on v x) r)
-
-    head_on : ℕ → ℕ → AtomHead
-    head_on v o = record { variable = v; operator = o }
 
     judged : (v o q : ℕ) (a b : Bool) → on_read (need a 5 s q) (λ x q. on_read (need b 7 s q) (λ x q. rest v o q))
         ≡ on_read (on_read (need a 5 s q) (λ x q. on_read (need b 7 s q) (λ x q. found (head_on v o) q))) (λ h q. rest h.variable h.operator q)
@@ -149,3 +149,53 @@ atom_by_head facts s p = from (variable facts s p)
         ≡ on_read (on_read m (λ v q. on_read (reading.field 4 s q) (λ o q. on_read (need (ltb o 9) 5 s q) (λ x q. on_read (need (fits_kind (kind_number (kind_of facts v)) o) 7 s q) (λ x q. found (head_on v o) q))))) (λ h q. rest h.variable h.operator q)
     from (found v q) = second v (reading.field 4 s q)
     from (refused n) = refl
+
+-- the head as it stands in the definition of an atom
+module _ (facts : Sheet) (s : List ℕ) where
+  abbrev judges : ℕ → ℕ → ℕ → Read AtomHead
+  judges v o r = on_read (need (ltb o 9) 5 s r) (λ x r. on_read (need (fits_kind (kind_number (kind_of facts v)) o) 7 s r) (λ x r. found (head_on v o) r))
+
+  abbrev goes : ℕ → ℕ → Read AtomHead
+  goes v q = on_read (reading.field 4 s q) (judges v)
+
+  abbrev named : ℕ → ℕ → Read ℕ
+  named v q = on_read (need (ltb v 24) 5 s q) (λ x q. on_read (need (is_there v (length facts.columns) (length facts.keys)) 6 s q) (λ x q. found v q))
+
+-- a variable below 24, and an operator below 9
+pub head_small : (facts : Sheet) (s : List ℕ) (p v o q : ℕ) → atom_head facts s p ≡ found (head_on v o) q → (v < 24) × (o < 9)
+unfolding atom_head variable
+head_small facts s p v o q e = from (reading.field 5 s p) e
+  where
+    no_read : {X : Type 0} {n : ℕ} → ◌≡◌ {A = Read AtomHead} (refused n) (found (head_on v o) q) → X
+    no_read g = let z : ◌≡◌ {A = ℕ} 0 1 = cc in absurd (omega arith)
+
+    last : (u w r : ℕ) → u < 24 → w < 9 → (b : Bool) → on_read (need b 7 s r) (λ x r. found (head_on u w) r) ≡ found (head_on v o) q → (v < 24) × (o < 9)
+    last u w r h k true g =
+        let same : head_on u w ≡ head_on v o = cc in
+        let a : u ≡ v = ap (λ (z : AtomHead). z.variable) same in
+        let b : w ≡ o = ap (λ (z : AtomHead). z.operator) same in
+        (omega arith, omega arith)
+    last u w r h k false g = no_read g
+
+    second : (u w r : ℕ) → u < 24 → (b : Bool) → ltb w 9 ≡ b
+        → on_read (need b 5 s r) (λ x r. on_read (need (fits_kind (kind_number (kind_of facts u)) w) 7 s r) (λ x r. found (head_on u w) r)) ≡ found (head_on v o) q → (v < 24) × (o < 9)
+    second u w r h true k g = last u w r h (ltb-true w 9 k) (fits_kind (kind_number (kind_of facts u)) w) g
+    second u w r h false k g = no_read g
+
+    first : (u : ℕ) → u < 24 → (m : Read ℕ) → on_read m (judges facts s u) ≡ found (head_on v o) q → (v < 24) × (o < 9)
+    first u h (found w r) g = second u w r h (ltb w 9) refl g
+    first u h (refused n) g = no_read g
+
+    there : (u r : ℕ) → u < 24 → (b : Bool) → on_read (on_read (need b 6 s r) (λ x r. found u r)) (goes facts s) ≡ found (head_on v o) q → (v < 24) × (o < 9)
+    there u r h true g = first u h (reading.field 4 s r) g
+    there u r h false g = no_read g
+
+    below : (u r : ℕ) (b : Bool) → ltb u 24 ≡ b
+        → on_read (on_read (need b 5 s r) (λ x r. on_read (need (is_there u (length facts.columns) (length facts.keys)) 6 s r) (λ x r. found u r))) (goes facts s) ≡ found (head_on v o) q
+        → (v < 24) × (o < 9)
+    below u r true h g = there u r (ltb-true u 24 h) (is_there u (length facts.columns) (length facts.keys)) g
+    below u r false h g = no_read g
+
+    from : (m : Read ℕ) → on_read (on_read m (named facts s)) (goes facts s) ≡ found (head_on v o) q → (v < 24) × (o < 9)
+    from (found u r) g = below u r (ltb u 24) refl g
+    from (refused n) g = no_read g

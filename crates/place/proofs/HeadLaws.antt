@@ -1,6 +1,6 @@
 -- A sheet's head, read field by field at a lent place, is the counts of the definitions.
 use Rattle.std.proofs.Common.{ℕ, ◌<◌, ◌≤◌, ◌≡◌, refl, sym, ap, subst, ◌∙◌, Bool, true, false, ◌&&◌, List, ltb, leb, eqb, Result, Ok, Err, ◌⊎◌, inl, inr, arith}
-use borrow.Author.Tests.{lt-ltb, le-ltb, le-leb, lt-leb, eq-eqb, ne_eqb, ltb-true, ltb-false, eqb-true, eqb-false}
+use borrow.Author.Tests.{lt-ltb, le-ltb, le-leb, lt-leb, eq-eqb, ne_eqb, leb-true, ltb-true, ltb-false, eqb-true, eqb-false}
 use Rattle.refusals.specs.declared.Refusal.{Refusal}
 use Rattle.refusals.specs.declared.Refusal.TheVariants.{OtherEdition, WrongCount}
 use Rattle.refusals.specs.Refusals.{number}
@@ -202,7 +202,68 @@ sheet_head_is s {p} {q} {u} {v} {w} (Ok n) b c d e ma mb mc md me = go (eqb n 1)
     go true h = four (eqb-true n 1 h) b c d e mb mc md me
     go false h = stopped (edition_wrong s ma (eqb-false n 1 h))
 
+-- what it says once the edition is judged: of the counts, or of another edition
+module _ {A B : Type 0} {m : Read A} {H : B → A → Type 0} {n : ℕ} (x y : Result (B × Place) Refusal) where
+  pub edition_one : n ≡ 1 → Answers m H (pick (eqb n 1) x y) → Answers m H x
+  edition_one h = subst (λ t. Answers m H (pick t x y)) (eq-eqb n 1 h)
+
+  pub edition_other : (n ≡ 1 → ⊥) → Answers m H (pick (eqb n 1) x y) → Answers m H y
+  edition_other h = subst (λ t. Answers m H (pick t x y)) (ne_eqb n 1 h)
+
 -- two fields, the second at the place that the first leaves
 pub atom_fields_are : (s : List ℕ) (at : Place) {v o : Result ℕ Refusal} {p q : Place} → Moves (field_at s at 5) at v p → Moves (field_at s p 4) p o q
     → (v ≡ taken_of (field_at s at 5)) × (o ≡ taken_of (field_at s (place_after (field_at s at 5) at) 4)) × (q ≡ place_after (field_at s (place_after (field_at s at 5) at) 4) (place_after (field_at s at 5) at))
 atom_fields_are s at (e, f) (g, h) = (e, g ∙ ap (λ z. taken_of (field_at s z 4)) f, h ∙ ap (λ z. place_after (field_at s z 4) z) f)
+
+abbrev pub counts_on : ℕ → ℕ → ℕ → ℕ → Counts
+counts_on c k t p = record { columns = c; keys = k; tables = t; policies = p }
+
+-- a count that is found is allowed
+found_count : (w low high : ℕ) (s : List ℕ) (p : ℕ) {B : Type 0} (k : ℕ → ℕ → Read B) (b : B) (q : ℕ) {X : Type 0}
+    → ((n r : ℕ) → n ≤ high → k n r ≡ found b q → X) → on_read (count w low high s p) k ≡ found b q → X
+unfolding count
+found_count w low high s p {B} k b q {X} next e = from (field w s p) e
+  where
+    no_read : {n : ℕ} → ◌≡◌ {A = Read B} (refused n) (found b q) → X
+    no_read g = let z : ◌≡◌ {A = ℕ} 0 1 = cc in absurd (omega arith)
+
+    judged : (n r : ℕ) (a c : Bool) → leb n high ≡ c → on_read (on_read (need (a && c) 4 s r) (λ x r. found n r)) k ≡ found b q → X
+    judged n r true true h g = next n r (leb-true n high h) g
+    judged n r true false h g = no_read g
+    judged n r false c h g = no_read g
+
+    from : (m : Read ℕ) → on_read (on_read m (λ n r. on_read (need (leb low n && leb n high) 4 s r) (λ x r. found n r))) k ≡ found b q → X
+    from (found n r) g = judged n r (leb low n) (leb n high) refl g
+    from (refused n) g = no_read g
+
+-- "0..16, 1..8, 1..16, 0..16": at most so many
+pub record CountsSmall (n : Counts) : Type 0 where
+  pub columns : n.columns ≤ 16
+  pub keys : n.keys ≤ 8
+  pub tables : n.tables ≤ 16
+  pub policies : n.policies ≤ 16
+
+pub counts_small : (s : List ℕ) (n : Counts) (q : ℕ) → counts s 0 ≡ found n q → CountsSmall n
+unfolding counts
+counts_small s n q e = from (field 4 s 0) e
+  where
+    no_read : {X : Type 0} {m : ℕ} → ◌≡◌ {A = Read Counts} (refused m) (found n q) → X
+    no_read g = let z : ◌≡◌ {A = ℕ} 0 1 = cc in absurd (omega arith)
+
+    rest : (o : ℕ) → columns_from s o ≡ found n q → CountsSmall n
+    rest o = found_count 5 0 16 s o (keys_from s) n q λ x o hx. found_count 4 1 8 s o (tables_from s x) n q λ k o hk. found_count 5 1 16 s o (policies_from s x k) n q λ t o ht.
+        found_count 5 0 16 s o (λ p o. found (counts_on x k t p) o) n q λ p o hp g.
+        let same : counts_on x k t p ≡ n = cc in
+        let a : x ≡ n.columns = ap (λ (z : Counts). z.columns) same in
+        let b : k ≡ n.keys = ap (λ (z : Counts). z.keys) same in
+        let c : t ≡ n.tables = ap (λ (z : Counts). z.tables) same in
+        let d : p ≡ n.policies = ap (λ (z : Counts). z.policies) same in
+        record { columns = omega arith; keys = omega arith; tables = omega arith; policies = omega arith }
+
+    one : (o : ℕ) (b : Bool) → on_read (need b 3 s o) (λ z o. columns_from s o) ≡ found n q → CountsSmall n
+    one o true g = rest o g
+    one o false g = no_read g
+
+    from : (m : Read ℕ) → on_read m (λ e o. on_read (need (eqb e 1) 3 s o) (λ z o. columns_from s o)) ≡ found n q → CountsSmall n
+    from (found e o) g = one o (eqb e 1) g
+    from (refused m) g = no_read g

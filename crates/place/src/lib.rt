@@ -73,13 +73,16 @@ pub fn next_count(
     Ok(count)
 }
 
+// "3: edition other than 1"
+const EDITION: u64 = 1;
+
 // The head of a sheet: the place is made here, and lent for each field in turn.
 pub fn sheet_head(s: &[u8]) -> Result<(Counts, Place), Refusal>
     ensures read { Answers (counts s.now 0) CountsAre result }
     ensures fit { IfOk result (λ r. CountsFit r.0) }
 {
     let mut at = Place { byte: 0, bit: 0 };
-    if next_field(s, &mut at, 4)? != 1 {
+    if next_field(s, &mut at, 4)? != EDITION {
         return Err(Refusal::OtherEdition);
     }
     let columns = next_count(s, &mut at, 5, 0, 16)?;
