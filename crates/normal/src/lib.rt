@@ -15,7 +15,7 @@ ghost use Rattle.meaning.specs.Allowed.{facts_of, TableAllowed};
 ghost use Rattle.meaning.specs.Replies.{NormalFormReply};
 ghost use Rattle.sheet.specs.Directory.{table_of};
 ghost use Rattle.asked.specs.Asked.{Ranges};
-ghost use Rattle.steps.specs.Lists.{kind_by};
+ghost use Rattle.steps.specs.Lists.{elements, kind_by};
 ghost use Rattle.pruned.specs.Pruned.{clauses_of, chosen, Tidied};
 ghost use Rattle.packing.specs.Wrote.{Wrote, AllInFive};
 ghost use Rattle.normal.specs.Written.{PolicyWritten, PoliciesWritten};
@@ -94,8 +94,8 @@ fn selector_end(sheet: &Accepted, p: usize) -> usize
 
 // Steps 1 to 5 of a policy's clauses. They are gathered here, in place: a call that took and gave them would copy them all.
 fn gather(sheet: &Accepted, k: usize, top: [u64; 32]) -> Few<Clause>
-    ensures few { length result ≤ 8 }
-    ensures tidied { Ranges sheet.now top → Tidied sheet.now (policy_at sheet.now k).clauses (clauses_of result) }
+    ensures few { length (elements result) ≤ 8 }
+    ensures tidied { Ranges sheet.now top → Tidied sheet.now (policy_at sheet.now k).clauses (clauses_of (elements result)) }
 {
     let kinds = sheet.kinds();
     let mut cs = Few::none(steps::empty());

@@ -1,11 +1,16 @@
--- The order of two things; the kinds of variables by their numbers.
-use Rattle.std.specs.Prelude.{ℕ, Bool, cond, List, ◌++◌, length, get_or, eqb}
+-- What a few elements by value are, in a row; the order of two things; the kinds of variables by their numbers.
+use Rattle.std.specs.Prelude.{ℕ, Bool, cond, List, ◌++◌, length, take, get_or, eqb}
 use Rattle.std.specs.declared.cmp.Ordering.{Ordering}
 use Rattle.std.specs.declared.cmp.Ordering.TheVariants.{Less, Equal, Greater}
 use Rattle.lists.specs.Lists.{each}
 use Rattle.bits.specs.Bits.{bits}
 use Rattle.meaning.specs.Values.{Kind, integer, token, boolean}
 use Rattle.meaning.specs.Packed.{value_bits}
+use Rattle.steps.specs.declared.few.Few.{Few}
+
+-- the elements, in their order
+abbrev pub elements : {A : Type 0} → Few A → List A
+elements f = take f.count f.items
 
 -- how two things stand to each other, where `before` says which stands before which
 abbrev pub compared : {A : Type 0} → (A → A → Bool) → A → A → Ordering

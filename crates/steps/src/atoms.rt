@@ -1,7 +1,8 @@
 // Steps 2 and 3 of one atom.
-ghost use Rattle.std.specs.Prelude.{◌≡◌, take, List, []};
+ghost use Rattle.std.specs.Prelude.{◌≡◌, take, get_or, List, []};
 ghost use Rattle.meaning.specs.Views.{operator_of, atom_of};
 ghost use Rattle.meaning.specs.Steps.{on, orient, tighten};
+ghost use Rattle.steps.specs.Lists.{elements};
 
 use crate::Few;
 use crate::numbers::{ascend_values, list_of};
@@ -31,7 +32,8 @@ pub fn with_list(a: Atom, list: &Few<u64>) -> Atom
     ensures variable { result.variable ≡ a.variable }
     ensures operator { result.operator ≡ a.operator }
     ensures other { result.other ≡ a.other }
-    ensures list { take result.count result.values ≡ list.now }
+    ensures list { take result.count result.values ≡ elements list.now }
+    ensures bound { get_or result.values 0 0 ≡ get_or list.now.items 0 0 }
 {
     Atom {
         count: list.as_slice().len() as u64,

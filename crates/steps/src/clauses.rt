@@ -4,6 +4,7 @@ ghost use Rattle.std.specs.List.{list_all};
 ghost use Rattle.lists.specs.Lists.{keep};
 ghost use Rattle.meaning.specs.Views.{atom_of, clause_of};
 ghost use Rattle.meaning.specs.Steps.{on, orient, tighten, spares, is_common, shared, merged};
+ghost use Rattle.steps.specs.Lists.{elements};
 
 use crate::Few;
 use crate::atoms::{orient_atom, tighten_atom, with_list};
@@ -46,9 +47,9 @@ fn up_to(n: usize, atoms: &[Atom]) -> &[Atom]
 
 // The clause of these atoms.
 pub fn clause_with(atoms: &Few<Atom>) -> Clause
-    ensures clause { clause_of result ≡ map atom_of atoms.now }
+    ensures clause { clause_of result ≡ map atom_of (elements atoms.now) }
     ensures few { result.count ≤ 8 }
-    ensures count { result.count ≡ length atoms.now }
+    ensures count { result.count ≡ length (elements atoms.now) }
 {
     Clause {
         count: atoms.as_slice().len(),
@@ -59,7 +60,7 @@ pub fn clause_with(atoms: &Few<Atom>) -> Clause
 // Steps 2 and 3, atom by atom.
 pub fn tighten_atoms(atoms: &[Atom]) -> Few<Atom>
     requires { length atoms.now ≤ 8 }
-    ensures { map atom_of result ≡ map tighten (map orient (map atom_of atoms.now)) }
+    ensures { map atom_of (elements result) ≡ map tighten (map orient (map atom_of atoms.now)) }
 {
     let mut out = Few::none(FILLER);
     for a in atoms {
@@ -85,7 +86,7 @@ pub fn is_common(atoms: &[Atom], v: u64, n: u64) -> bool
 // Those of the values that each in-list among the atoms on the variable v has.
 pub fn common_values(atoms: &[Atom], v: u64, vs: &[u64]) -> Few<u64>
     requires { length vs.now ≤ 8 }
-    ensures { result ≡ keep (is_common (map atom_of atoms.now) v) vs.now }
+    ensures { elements result ≡ keep (is_common (map atom_of atoms.now) v) vs.now }
 {
     let mut out = Few::none(0);
     for n in vs {
@@ -109,7 +110,7 @@ pub fn common_atom(atoms: &[Atom], a: Atom) -> Atom
 // Step 3, of the in-lists.
 pub fn merge_lists(atoms: &[Atom]) -> Few<Atom>
     requires { length atoms.now ≤ 8 }
-    ensures { map atom_of result ≡ merged (map atom_of atoms.now) }
+    ensures { map atom_of (elements result) ≡ merged (map atom_of atoms.now) }
 {
     let mut out = Few::none(FILLER);
     for a in atoms {

@@ -6,6 +6,7 @@ use Rattle.meaning.specs.Views.{clause_of}
 use Rattle.sheet.proofs.AcceptedLaws.{policy_there}
 use Rattle.asked.proofs.UseLaws.{policy_used}
 use Rattle.std.proofs.lemmas.List.{map-append}
+use Rattle.steps.specs.Lists.{elements}
 use Rattle.pruned.specs.Pruned.{Fits, Tidied}
 use Rattle.pruned.proofs.TidiedLaws.{nothing_tidied, one_stays, one_goes}
 use Rattle.normal.proofs.ReadableLaws.{known, taken_more, taken_all}
@@ -35,16 +36,16 @@ loop-i-preserved c = let l = c.loop-i in
     let fit : Fits sheet x = subst (Fits sheet) (sym e) (all_at (Fits sheet) [] cs i h (policy_used sheet n.allowed a.k (policy_there sheet a.k h))) in
     elim c.if-satisfiable.branch [
       | then-satisfiable w ↦ record {
-        few = omega (arith, longer l.cs _ _ (w.cs-is ∙ w.push.ensures));
+        few = omega (arith, longer (elements l.cs) _ _ (ap elements w.cs-is ∙ w.push.ensures));
         tidied = λ r.
             let k = known sheet c.kinds-kinds.result a.top c.kinds-kinds.ensures (search rules) n.allowed r in
             taken_more sheet cs i x h e
-            (subst (Tidied sheet (take i cs ++ (x ∷ []))) (sym (ap (map clause_of) (w.cs-is ∙ w.push.ensures) ∙ map-append clause_of l.cs (w.normal_clause.result ∷ [])))
+            (subst (Tidied sheet (take i cs ++ (x ∷ []))) (sym (ap (map clause_of) (ap elements w.cs-is ∙ w.push.ensures) ∙ map-append clause_of (elements l.cs) (w.normal_clause.result ∷ [])))
             (one_stays sheet (l.invariant.tidied r) x (clause_of w.normal_clause.result) ((c.satisfiable.ensures sheet r fit).yes w.if-satisfiable.true) (w.normal_clause.ensures.1 sheet k fit)));
       }
       | else-satisfiable w ↦ record {
-        few = omega (arith, ap length w.cs-is);
-        tidied = λ r. subst (λ t. Tidied sheet (take (i + 1) cs) (map clause_of t)) (sym w.cs-is)
+        few = omega (arith, ap length (ap elements w.cs-is));
+        tidied = λ r. subst (λ t. Tidied sheet (take (i + 1) cs) (map clause_of t)) (sym (ap elements w.cs-is))
             (taken_more sheet cs i x h e (one_goes sheet (l.invariant.tidied r) x ((c.satisfiable.ensures sheet r fit).no w.if-satisfiable.false)));
       }
     ]

@@ -15,7 +15,7 @@ pub loop-i-preserved : goal.loop-i-preserved
 loop-i-preserved c = let l = c.loop-i in
     let sheet = c.args.sheet.now in
     let one = c.write_policy in
-    let there : l.i < length sheet.policies = omega (arith, c.policies-i-end.ensures.number, c.loop-i-test.true) in
+    let there : l.i < length sheet.policies = omega arith in
     record {
       same = search rules;
       written = λ o bs w.
@@ -27,5 +27,5 @@ loop-i-preserved c = let l = c.loop-i in
 pub returns-clause-wrote : goal.returns-clause-wrote
 returns-clause-wrote c = let l = c.loop-i in
     let sheet = c.args.sheet.now in
-    let n : l.i ≡ length sheet.policies = omega (arith, c.policies-i-end.ensures.number, c.loop-i-test.false) in
+    let n : l.i ≡ length sheet.policies = omega arith in
     λ o bs w. subst (λ (z : ℕ). PoliciesWritten sheet z o bs l.w.out.now l.w.bits) n (l.invariant.written o bs w)
