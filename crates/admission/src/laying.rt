@@ -6,9 +6,9 @@ ghost use Rattle.meaning.specs.Values.{Kind, Contents};
 ghost use Rattle.meaning.specs.Atoms.{Clause, met};
 ghost use Rattle.meaning.specs.Sheets.{Sheet, kind_of};
 ghost use Rattle.meaning.specs.Reading.{found, clause};
-ghost use Rattle.admission.specs.Plan.{operator_number_of, variable_of, other_of, other_at, atom_of_word, has_residue, sieve_met, ClauseLaid, Outside, LaidAt};
+ghost use Rattle.admission.specs.Plan.{operator_number_of, variable_of, other_of, other_at, atom_of_word, has_residue, sieve_met, ClauseLaid, Outside, LaidAt, size_of};
 
-use crate::size_of;
+use crate::{Laid, size_of};
 use bits::{peek, peek64};
 
 // A word of its three parts.
@@ -31,13 +31,17 @@ fn other_at(s: &[u8], p: usize, op: u64) -> u64
 }
 
 // The word of the atom at bit number p.
-fn atom_word(s: &[u8], p: usize) -> u16
+fn atom_word(s: &[u8], p: usize) -> Laid
     requires { p ≤ 2 ^ 32 }
-    ensures { LaidAt s.now p result }
+    ensures { LaidAt s.now p result.word × (result.size ≡ size_of result.word) × (result.size ≤ 2048) }
 {
     let v = peek(s, p, 5);
     let op = peek(s, p + 5, 4);
-    word_of(op, v, other_at(s, p, op))
+    let word = word_of(op, v, other_at(s, p, op));
+    Laid {
+        word,
+        size: size_of(word),
+    }
 }
 
 // The guard of a clause that has a word more: the word's two variables where it is an equality.
@@ -94,11 +98,11 @@ pub fn lay_clause(s: &[u8], p: usize, words: &mut [u16; 1024], slot: usize) -> u
     let mut sieve = 31;
     let mut at = p + 4;
     for k in 0..n {
-        let word = atom_word(s, at);
-        words[slot * 8 + k] = word;
-        guard = guard_with(guard, word);
-        sieve = sieve_with(sieve, s, at, word);
-        at += size_of(word);
+        let laid = atom_word(s, at);
+        words[slot * 8 + k] = laid.word;
+        guard = guard_with(guard, laid.word);
+        sieve = sieve_with(sieve, s, at, laid.word);
+        at += laid.size;
     }
     n as u64 + (p + 4) as u64 * 16 + guard * 4194304 + sieve * 4294967296
 }

@@ -16,6 +16,13 @@ pub mod plan;
 pub use laying::lay_clause;
 pub use plan::Plan;
 
+// A word with the number of bits of its atom.
+#[derive(Clone, Copy)]
+pub struct Laid {
+    pub word: u16,
+    pub size: usize,
+}
+
 // How many bits the word's atom has.
 fn size_of(w: u16) -> usize
     ensures { (result ≡ size_of w) × (result ≤ 2048) }

@@ -1,7 +1,7 @@
 // The policies that count for a table and a command, laid out.
 ghost use Rattle.std.specs.Prelude.{◌≤◌};
 
-#[derive(Drop)]
+#[derive(Clone, Copy)]
 pub struct Plan {
     // a word for each atom, eight to a clause's slot, and a head for each clause
     pub words: [u16; 1024],

@@ -11,7 +11,7 @@ ghost use Rattle.meaning.specs.Replies.{ListingReply};
 ghost use Rattle.rows.specs.Held.{held};
 ghost use Rattle.listing.specs.Ready.{asked_of, Lists, WritesAdmitted};
 
-use admission::Plan;
+pub use admission::Plan;
 use meaning::Listed;
 use plans::lay_policies;
 use refusals::Refusal;

@@ -20,7 +20,7 @@ use Rattle.asked.specs.Words.{word_atom, word_atoms, seen}
 use Rattle.asked.specs.Asked.{Uses, TellsMeets, TellsLeak, Anchors}
 use Rattle.asked.proofs.UseLaws.{branches_used, key_there}
 use Rattle.asked.proofs.AnchorLaws.{anchored_so}
-use Rattle.verdicts.specs.declared.Question.TheInside.{Inside}
+use Rattle.verdicts.specs.declared.Asking.TheInside.{Inside}
 use Rattle.verdicts.specs.Questions.{Posed, number_of, branch_at, held_by, Met, TellsMark, TellsPair}
 use Rattle.verdicts.specs.Posing.{what_is_posed, Poses, IsPosed}
 
@@ -62,8 +62,8 @@ room n m₀ m p q lp lq ne l h g = go (dec_lt q p)
     go (no k) = omega arith
 
 -- what a question that a clause sees knows of what is posed
-pub known : (a : Inside) → IsPosed a → {q : Posed} → what_is_posed a ≡ q → Poses q a.roles a.counts a.number a.top
-known a i e = subst (λ q. Poses q a.roles a.counts a.number a.top) e i
+pub known : (a : Inside) → IsPosed a → {q : Posed} → what_is_posed a ≡ q → Poses q a.question.roles a.question.counts a.question.number a.question.top
+known a i e = subst (λ q. Poses q a.question.roles a.question.counts a.question.number a.question.top) e i
 
 module _ {q : Posed} {roles counts top : List ℕ} {number : ℕ} (poses : Poses q roles counts number top) where
   -- the branch that a number picks is the definitions' own

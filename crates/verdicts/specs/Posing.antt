@@ -3,7 +3,7 @@ use Rattle.std.specs.Prelude.{ℕ, ◌<◌, ◌≡◌, List, length}
 use Rattle.meaning.specs.Allowed.{SheetAllowed}
 use Rattle.branches.specs.Parts.{RolesAre, CountsAre}
 use Rattle.asked.specs.Asked.{Ranges}
-use Rattle.verdicts.specs.declared.Question.TheInside.{Inside}
+use Rattle.verdicts.specs.declared.Asking.TheInside.{Inside}
 use Rattle.verdicts.specs.Questions.{Posed, number_of}
 
 -- the sheet is allowed, the table is there, and the roles, clause counts, N and last values are theirs
@@ -19,4 +19,4 @@ abbrev pub what_is_posed : Inside → Posed
 what_is_posed a = record { sheet = a.sheet.now; table = a.table; command = a.command }
 
 abbrev pub IsPosed : Inside → Type 0
-IsPosed a = Poses (what_is_posed a) a.roles a.counts a.number a.top
+IsPosed a = Poses (what_is_posed a) a.question.roles a.question.counts a.question.number a.question.top

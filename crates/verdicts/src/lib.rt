@@ -23,19 +23,25 @@ pub use replies::{branch_count, covers, dead, isolated};
 use sheet::Accepted;
 use std::marker::Model;
 
-// What a table and command ask of an accepted sheet: with the policies' roles and clause counts, N, and the last values of the variables' kinds.
+// What a table and command ask of a sheet: the policies' roles and clause counts, N, and the last values of the variables' kinds.
+#[derive(Clone, Copy)]
+pub struct Question {
+    pub roles: [u64; 16],
+    pub counts: [u64; 16],
+    pub number: u64,
+    pub top: [u64; 32],
+}
+
+// A table and a command of an accepted sheet, with the question that they ask of it.
 #[derive(Drop)]
-struct Question<'a> {
+struct Asking<'a> {
     sheet: &'a Accepted<'a>,
     table: usize,
     command: u64,
-    roles: [u64; 16],
-    counts: [u64; 16],
-    number: u64,
-    top: [u64; 32],
+    question: Question,
 }
 
-impl<'a> Model for Question<'a> {
+impl<'a> Model for Asking<'a> {
     ghost use Rattle.verdicts.specs.Questions.{Posed, posed_code};
 
     ghost Value = { Posed };
@@ -84,9 +90,9 @@ fn lay_branch(sheet: &Accepted, b: Branch, words: &mut [u64], n: usize, second: 
     m
 }
 
-impl<'a> Question<'a> {
+impl<'a> Asking<'a> {
     // What a table and command ask of a sheet; else 12.
-    fn of(sheet: &'a Accepted<'a>, table: u32, command: u32) -> Result<Question<'a>, Refusal>
+    fn of(sheet: &'a Accepted<'a>, table: u32, command: u32) -> Result<Asking<'a>, Refusal>
         ensures { Puts sheet.now table command (asked_table (packed sheet.now) table command) result }
     {
         if sheet.tables() <= table as usize || 3 < command {
@@ -94,14 +100,16 @@ impl<'a> Question<'a> {
         }
         let roles = branches::roles(sheet, table as usize, command as u64);
         let counts = branches::counts(sheet);
-        Ok(Question {
+        Ok(Asking {
             sheet,
             table: table as usize,
             command: command as u64,
-            roles,
-            counts,
-            number: branches::count(roles, counts),
-            top: asked::tops(sheet.kinds()),
+            question: Question {
+                roles,
+                counts,
+                number: branches::count(roles, counts),
+                top: asked::tops(sheet.kinds()),
+            },
         })
     }
 
@@ -109,7 +117,7 @@ impl<'a> Question<'a> {
     fn number(&self) -> u64
         ensures { result ≡ number_of self.now }
     {
-        self.number
+        self.question.number
     }
 
     // Branch k is laid for the first session.
@@ -118,7 +126,7 @@ impl<'a> Question<'a> {
         ensures count { result ≤ 128 }
         ensures atoms { k < number_of self.now → word_atoms words.new result ≡ map (seen false) (branch_at self.now k) }
     {
-        let b = branches::pick(self.roles, self.counts, k);
+        let b = branches::pick(self.question.roles, self.question.counts, k);
         lay_branch(self.sheet, b, words, 0, false)
     }
 
@@ -128,14 +136,14 @@ impl<'a> Question<'a> {
     {
         let mut words = [0u64; 1408];
         let n = self.lay_at(k, &mut words);
-        asked::meets(&words, n, self.top)
+        asked::meets(&words, n, self.question.top)
     }
 
     // "Dead: no row and session is admitted": is the table live?
     fn is_live(&self) -> bool
         ensures { Decides (IsLive self.now.sheet self.now.table self.now.command) result }
     {
-        for k in 0..self.number {
+        for k in 0..self.question.number {
             if self.branch_met(k) {
                 return true;
             }
@@ -149,7 +157,7 @@ impl<'a> Question<'a> {
         ensures { k < number_of self.now → TellsMark self.now k result }
     {
         let n = self.lay_at(k, words);
-        if asked::meets(words, n, self.top) {
+        if asked::meets(words, n, self.question.top) {
             return asked::anchor(words, n);
         }
         0
@@ -161,7 +169,7 @@ impl<'a> Question<'a> {
         ensures { Marks self.now result }
     {
         let mut marks = [1u8; 256];
-        for k in 0..self.number.min(256) {
+        for k in 0..self.question.number.min(256) {
             marks[k as usize] = self.mark(k, words);
         }
         marks
@@ -173,9 +181,9 @@ impl<'a> Question<'a> {
         ensures told { b < number_of self.now → TellsPair self.now b (word_atoms words.old n) result }
         ensures kept { word_atoms words.new n ≡ word_atoms words.old n }
     {
-        let c = branches::pick(self.roles, self.counts, b);
+        let c = branches::pick(self.question.roles, self.question.counts, b);
         let m = lay_branch(self.sheet, c, words, n, true);
-        asked::leaks(words, m, self.top)
+        asked::leaks(words, m, self.question.top)
     }
 
     // Does the pair of branch a, whose n atoms are laid, and branch b leak? Branches that nobody meets are passed over, and so are two that have
@@ -202,7 +210,7 @@ impl<'a> Question<'a> {
         requires { (number_of self.now ≤ 256) × Marks self.now marks.now × (2816 ≤ length words.old) }
         ensures { IsolationOf self.now.sheet self.now.table self.now.command result }
     {
-        let n = self.number as usize;
+        let n = self.question.number as usize;
         let mut found = Isolation::Isolated;
         'search: for a in 0..n {
             let laid = self.lay_at(a as u64, words);

@@ -4,7 +4,7 @@ ghost use Rattle.meaning.specs.Packed.{packed};
 ghost use Rattle.meaning.specs.Replies.{asked_verdict, DeadReply, IsolatedReply, CoversReply, BranchesReply};
 ghost use Rattle.verdicts.specs.Questions.{number_of, Puts};
 
-use crate::Question;
+use crate::Asking;
 use meaning::{Cover, Isolation, Life};
 use refusals::Refusal;
 use sheet::Accepted;
@@ -13,11 +13,11 @@ use sheet::Accepted;
 const MOST: u64 = 256;
 
 // What a table and command ask of a sheet, where N is not too much; else 12 or 13.
-fn judged<'a>(sheet: &'a Accepted<'a>, table: u32, command: u32) -> Result<Question<'a>, Refusal>
+fn judged<'a>(sheet: &'a Accepted<'a>, table: u32, command: u32) -> Result<Asking<'a>, Refusal>
     ensures puts { Puts sheet.now table command (asked_verdict (packed sheet.now) table command) result }
     ensures few { IfOk result (λ q. number_of q ≤ 256) }
 {
-    let q = Question::of(sheet, table, command)?;
+    let q = Asking::of(sheet, table, command)?;
     if MOST < q.number() {
         return Err(Refusal::TooManyBranches);
     }
@@ -43,7 +43,7 @@ pub fn isolated(sheet: &Accepted, table: u32, command: u32) -> Result<Isolation,
 pub fn branch_count(sheet: &Accepted, table: u32, command: u32) -> Result<u64, Refusal>
     ensures { BranchesReply (packed sheet.now) table command result }
 {
-    Ok(Question::of(sheet, table, command)?.number())
+    Ok(Asking::of(sheet, table, command)?.number())
 }
 
 // "Policy A covers policy B when each clause of B that some row and session meets is covered by a single clause of A."

@@ -21,7 +21,7 @@ loop-k-init c = record {
 
 pub loop-k-preserved : goal.loop-k-preserved
 loop-k-preserved c = let room : c.args.slot * 8 + c.loop-k.k < length c.loop-k.words = omega arith in
-    let size = c.size_of-at.ensures.1 in
+    let size = c.atom_word-laid.ensures.2 in
     let test = c.loop-k-test.true in
     record {
       near = omega arith;
@@ -30,7 +30,7 @@ loop-k-preserved c = let room : c.args.slot * 8 + c.loop-k.k < length c.loop-k.w
       outside = one_written c.loop-k.invariant.outside _ _ (omega arith) (omega arith);
       laying = λ facts d q l e. let g = c.loop-k.invariant.laying facts d q l e in let n = g.0 in (
         g.0,
-        laying_on facts _ l d _ q _ e _ _ _ _ _ g.1 c.atom_word-word.result (omega arith) room c.atom_word-word.ensures c.size_of-at.ensures.0 c.guard_with-guard.ensures.1 c.sieve_with-sieve.ensures.1,
+        laying_on facts _ l d _ q _ e _ _ _ _ _ g.1 c.atom_word-laid.result.word (omega arith) room c.atom_word-laid.ensures.0 c.atom_word-laid.ensures.1 c.guard_with-guard.ensures.1 c.sieve_with-sieve.ensures.1,
       );
     }
 

@@ -1,8 +1,8 @@
--- `verdicts::Question::pair_leaks` meets its contract: branch b is laid behind the atoms that stand there, for the second session, and leaves them.
+-- `verdicts::Asking::pair_leaks` meets its contract: branch b is laid behind the atoms that stand there, for the second session, and leaves them.
 use Rattle.std.proofs.Common.{true, ap}
 use Rattle.asked.specs.Words.{word_atoms}
 use Rattle.verdicts.proofs.LayLaws.{known, laid_at, pair_told, kept_behind}
-use Rattle.verdicts.proofs.Question.pair_leaks.Goals as goal
+use Rattle.verdicts.proofs.Asking.pair_leaks.Goals as goal
 
 pub returns-clause-told : goal.returns-clause-told
 returns-clause-told c l =

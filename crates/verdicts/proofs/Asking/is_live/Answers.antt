@@ -1,10 +1,10 @@
--- `verdicts::Question::is_live` meets its contract: nobody meets the branches before k.
+-- `verdicts::Asking::is_live` meets its contract: nobody meets the branches before k.
 use Rattle.std.proofs.Common.{arith, ◌<◌, ◌≤◌}
 use Rattle.covering.proofs.CoverLaws.{below_more}
 use Rattle.verdicts.specs.Questions.{number_of}
 use Rattle.verdicts.proofs.LayLaws.{known}
 use Rattle.verdicts.proofs.LeakLaws.{met_live, unmet_dead}
-use Rattle.verdicts.proofs.Question.is_live.Goals as goal
+use Rattle.verdicts.proofs.Asking.is_live.Goals as goal
 
 pub loop-k-init : goal.loop-k-init
 loop-k-init c j l = absurd (omega arith)

@@ -1,8 +1,8 @@
--- `verdicts::Question::marked` meets its contract: each mark is its branch's; what is not judged yet is 1.
+-- `verdicts::Asking::marked` meets its contract: each mark is its branch's; what is not judged yet is 1.
 use Rattle.std.proofs.Common.{arith, refl, ◌∙◌, length-set}
 use Rattle.verdicts.proofs.LayLaws.{known}
 use Rattle.verdicts.proofs.LeakLaws.{marks_start, marks_next}
-use Rattle.verdicts.proofs.Question.marked.Goals as goal
+use Rattle.verdicts.proofs.Asking.marked.Goals as goal
 
 pub loop-k-init : goal.loop-k-init
 loop-k-init c = (refl, marks_start _)

@@ -1,9 +1,9 @@
--- `verdicts::Question::of` meets its contract: table and command are judged in full; roles, counts, N and ranges are the sheet's.
+-- `verdicts::Asking::of` meets its contract: table and command are judged in full; roles, counts, N and ranges are the sheet's.
 use Rattle.std.proofs.Common.{arith, refl, ◌∙◌, ◌<◌, length, inl, inr}
 use Rattle.branches.proofs.SheetLaws.{count_is, counts_sized}
 use Rattle.verdicts.proofs.ReplyLaws.{not_asked, table_asked}
-use Rattle.verdicts.proofs.Question.of.Goals as goal
-use Rattle.verdicts.proofs.Question.of.Goals.{then-tables-table-via-then-tables-table, then-tables-table-via-else-tables-table+then-command-gt3}
+use Rattle.verdicts.proofs.Asking.of.Goals as goal
+use Rattle.verdicts.proofs.Asking.of.Goals.{then-tables-table-via-then-tables-table, then-tables-table-via-else-tables-table+then-command-gt3}
 
 pub returns-then-tables-table : goal.returns-then-tables-table
 returns-then-tables-table c = let n = c.tables.ensures.number in

@@ -1,6 +1,6 @@
--- `verdicts::Question::leaks_at` meets its contract: a branch that nobody meets is in no leaking pair, nor are two that have their tenants in one column.
+-- `verdicts::Asking::leaks_at` meets its contract: a branch that nobody meets is in no leaking pair, nor are two that have their tenants in one column.
 use Rattle.verdicts.proofs.LeakLaws.{passed_anchored, leaking_told}
-use Rattle.verdicts.proofs.Question.leaks_at.Goals as goal
+use Rattle.verdicts.proofs.Asking.leaks_at.Goals as goal
 
 pub returns-then-marks-a-clause-told : goal.returns-then-marks-a-clause-told
 returns-then-marks-a-clause-told c m la lb e = let r = c.requires in passed_anchored _ _ _ (m _ r.2 la) (m _ r.3 lb) c.if-marks-a-gt1.true c.if-marks-a.true

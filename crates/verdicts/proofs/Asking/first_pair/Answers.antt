@@ -1,10 +1,10 @@
--- `verdicts::Question::first_pair` meets its contract: at the head of each loop no earlier pair leaks, nothing has been found, and branch a is laid.
+-- `verdicts::Asking::first_pair` meets its contract: at the head of each loop no earlier pair leaks, nothing has been found, and branch a is laid.
 use Rattle.std.proofs.Common.{arith, sym, subst, ◌<◌, ◌≤◌}
 use Rattle.meaning.specs.Replies.{IsolationOf}
 use Rattle.verdicts.specs.Questions.{number_of}
 use Rattle.verdicts.proofs.LayLaws.{known}
 use Rattle.verdicts.proofs.LeakLaws.{quiet_row, quiet_all, leak_first}
-use Rattle.verdicts.proofs.Question.first_pair.Goals as goal
+use Rattle.verdicts.proofs.Asking.first_pair.Goals as goal
 
 pub search-preserved : goal.search-preserved
 search-preserved c =
