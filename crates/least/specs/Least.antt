@@ -1,5 +1,6 @@
 -- The least value of one class of equal variables.
-use Rattle.std.specs.Prelude.{ℕ, ◌+◌, ◌*◌, ◌≤◌, ◌<◌, ◌^◌, ◌≡◌, Bool, true, false, List, get_or, Option, Some, None}
+use Rattle.std.specs.Prelude.{ℕ, ◌+◌, ◌*◌, ◌%◌, ◌≤◌, ◌<◌, ◌^◌, ◌≡◌, Bool, true, false, List, length, get_or, Option, Some, None}
+use Rattle.lists.specs.Decides.{Decides}
 use Rattle.words.specs.Meaning.{Test, allows, var_at, op_at, test_at, atoms}
 use Rattle.least.specs.declared.Span.{Span}
 
@@ -56,6 +57,20 @@ pub record Fair (s : List ℕ) (i y : ℕ) : Type 0 where
 -- y passes every list among the first k atoms of class r
 abbrev pub FairAll : List ℕ → List ℕ → ℕ → ℕ → ℕ → Type 0
 FairAll s rep r k y = (i : ℕ) → i < k → Of s rep r i → Fair s i y
+
+-- these are the values of atom i, an in-list
+pub record InList (s : List ℕ) (i : ℕ) (values : List ℕ) : Type 0 where
+  pub op : op_at s i ≡ 1
+  pub count : length values ≡ get_or s (i * 11 + 2) 0 % 9
+  pub each : (k : ℕ) → k < length values → get_or values k 0 ≡ get_or s (i * 11 + 3 + k) 0
+
+-- of the first k values those that were left stay that pass the lists of atom i
+pub record Sifts (s : List ℕ) (i : ℕ) (values : List ℕ) (k : ℕ) (old live : List Bool) : Type 0 where
+  pub each : (j : ℕ) → j < k → Decides ((get_or old j false ≡ true) × Fair s i (get_or values j 0)) (get_or live j false)
+
+-- of these values those are left that lie in low..=high and pass every list among the first k atoms of class r
+pub record Lives (s rep : List ℕ) (r : ℕ) (values : List ℕ) (low high k : ℕ) (live : List Bool) : Type 0 where
+  pub each : (j : ℕ) → j < length values → Decides ((low ≤ get_or values j 0) × (get_or values j 0 ≤ high) × FairAll s rep r k (get_or values j 0)) (get_or live j false)
 
 -- the least in low..=high of the first k values that passes every list of class r, as far as the class's values are among them
 abbrev pub FirstListed : List ℕ → List ℕ → ℕ → List ℕ → ℕ → ℕ → ℕ → Option ℕ → Type 0

@@ -4,27 +4,27 @@
 // linear in the atoms and their values. Stands on words (the conjunction).
 #![tactic(auto)]
 
-ghost use Rattle.std.specs.Prelude.{◌≡◌, List, ℕ, ◌+◌, ◌*◌, ◌/◌, ◌%◌, ◌≤◌, ◌<◌, length, get_or};
+ghost use Rattle.std.specs.Prelude.{◌≡◌, ◌⊎◌, List, ℕ, ◌+◌, ◌*◌, ◌/◌, ◌%◌, ◌≤◌, ◌<◌, length, get_or, false};
 ghost use Rattle.lists.specs.Decides.{Decides};
 ghost use Rattle.words.specs.Meaning.{op_at, test_at};
-ghost use Rattle.least.specs.Least.{Of, Bounds, Spans, Strikes, Marks, Gap, FirstFree, Fair, FairAll, FirstListed, LeastOf};
+ghost use Rattle.least.specs.Least.{Of, Bounds, Spans, Strikes, Marks, Gap, FirstFree, InList, Sifts, Lives, FirstListed, LeastOf};
 
 use words::var_at;
 
 // A range of values; where high is below low there are none.
 #[derive(Clone, Copy)]
-struct Range {
-    low: u64,
-    high: u64,
+pub struct Range {
+    pub low: u64,
+    pub high: u64,
 }
 
 // What the atoms of one class say: a range, an atom with an in-list where there is one, whether values are struck out.
 #[derive(Clone, Copy)]
-struct Span {
-    low: u64,
-    high: u64,
-    list: Option<usize>,
-    struck: bool,
+pub struct Span {
+    pub low: u64,
+    pub high: u64,
+    pub list: Option<usize>,
+    pub struck: bool,
 }
 
 // One class of a conjunction: the words, the variables' labels, and the class's own label.
@@ -97,17 +97,53 @@ fn gap(marks: &[bool; 2112]) -> usize
     marks.iter().position(|m| !*m).unwrap_or(2112)
 }
 
-// Does y pass atom i, where that is a list?
-#[tactic(auto, unfolding(words::specs::Meaning::test_at))]
-fn fair(s: &[u64], i: usize, y: u64) -> bool
+// Is atom i a list?
+fn is_list(s: &[u64], i: usize) -> bool
     requires { i < length s.now / 11 }
-    ensures { Decides (Fair s.now i y) result }
+    ensures { Decides ((op_at s.now i ≡ 1) ⊎ (op_at s.now i ≡ 2)) result }
 {
-    match s[i * 11 + 1] {
-        1 => listed(s, i).contains(&y),
-        2 => !listed(s, i).contains(&y),
-        _ => true,
+    matches!(s[i * 11 + 1], 1 | 2)
+}
+
+// Is y among these values?
+fn among(values: &[u64], y: u64) -> bool
+    ensures { Decides ((k : ℕ) × (k < length values.now) × (get_or values.now k 0 ≡ y)) result }
+{
+    values.contains(&y)
+}
+
+// Which of these values lie in low..=high?
+fn within(values: &[u64], low: u64, high: u64) -> [bool; 8]
+    requires { length values.now ≤ 8 }
+    ensures { (k : ℕ) → k < length values.now → Decides ((low ≤ get_or values.now k 0) × (get_or values.now k 0 ≤ high)) (get_or result k false) }
+{
+    let mut live = [false; 8];
+    for (k, y) in values.iter().enumerate() {
+        live[k] = low <= *y && *y <= high;
     }
+    live
+}
+
+// Of these values those stay that pass atom i, a list.
+fn sift(s: &[u64], i: usize, values: &[u64], live: &mut [bool; 8])
+    requires a_list { (i < length s.now / 11) × ((op_at s.now i ≡ 1) ⊎ (op_at s.now i ≡ 2)) }
+    requires room { length values.now ≤ 8 }
+    ensures { Sifts s.now i values.now (length values.now) live.old live.new }
+{
+    let wanted = s[i * 11 + 1] == 1;
+    let list = listed(s, i);
+    for (k, y) in values.iter().enumerate() {
+        if live[k] && among(list, *y) != wanted {
+            live[k] = false;
+        }
+    }
+}
+
+// Is none of these left?
+fn none_left(live: &[bool; 8]) -> bool
+    ensures { Decides ((k : ℕ) → get_or live.now k false ≡ false) result }
+{
+    !live.contains(&true)
 }
 
 // Is y below the best so far?
@@ -180,25 +216,35 @@ impl Class<'_> {
         None
     }
 
-    // Does y pass every list of the class?
-    fn passes(&self, y: u64) -> bool
-        ensures { Decides (FairAll self.now.s.now self.now.rep.now self.now.r (length self.now.s.now / 11) y) result }
+    // Which of these values lie in low..=high and pass every list of the class? Its atom `list`, whose values they are, sifts none of them.
+    fn sift_all(&self, list: usize, values: &[u64], low: u64, high: u64) -> [bool; 8]
+        requires { InList self.now.s.now list values.now }
+        ensures { Lives self.now.s.now self.now.rep.now self.now.r values.now low high (length self.now.s.now / 11) result }
     {
+        let mut live = within(values, low, high);
+        if none_left(&live) {
+            return live;
+        }
         for i in 0..self.s.len() / 11 {
-            if self.has(i) && !fair(self.s, i, y) {
-                return false;
+            if self.has(i) && is_list(self.s, i) && i != list {
+                sift(self.s, i, values, &mut live);
+                if none_left(&live) {
+                    return live;
+                }
             }
         }
-        true
+        live
     }
 
-    // The least in low..=high of these values that passes every list of the class.
-    fn least_listed(&self, values: &[u64], low: u64, high: u64) -> Option<u64>
+    // The least in low..=high of the values of the atom `list` that passes every list of the class.
+    fn least_listed(&self, list: usize, values: &[u64], low: u64, high: u64) -> Option<u64>
+        requires { InList self.now.s.now list values.now }
         ensures { FirstListed self.now.s.now self.now.rep.now self.now.r values.now low high (length values.now) result }
     {
+        let live = self.sift_all(list, values, low, high);
         let mut best = None;
-        for y in values {
-            if low <= *y && *y <= high && nearer(best, *y) && self.passes(*y) {
+        for (k, y) in values.iter().enumerate() {
+            if live[k] && nearer(best, *y) {
                 best = Some(*y);
             }
         }
@@ -213,7 +259,7 @@ impl Class<'_> {
         if t.high < t.low {
             None
         } else if let Some(i) = t.list {
-            self.least_listed(listed(self.s, i), t.low, t.high)
+            self.least_listed(i, listed(self.s, i), t.low, t.high)
         } else if t.struck {
             self.first_free(t.low, t.high)
         } else {

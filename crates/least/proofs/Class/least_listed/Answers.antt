@@ -1,19 +1,19 @@
 -- The least of the values so far.
-use Rattle.std.proofs.Common.{refl, arith}
-use Rattle.least.proofs.SpanLaws.{listed_skip, listed_unfair, listed_later, listed_add}
+use Rattle.std.proofs.Common.{refl}
+use Rattle.least.proofs.SpanLaws.{listed_unfair, listed_later, listed_add}
 use Rattle.least.proofs.Class.least_listed.Goals as goal
-use Rattle.least.proofs.Class.least_listed.Goals.{then-low-y+then-y-high+then-nearer+then-passes, else-low-y, else-low-y-via-then-low-y+then-y-high+then-nearer+else-passes, else-low-y-via-then-low-y+then-y-high+else-nearer, else-low-y-via-then-low-y+else-y-high, else-low-y-via-else-low-y}
+use Rattle.least.proofs.Class.least_listed.Goals.{then-live-k+then-nearer, else-live-k, else-live-k-via-then-live-k+else-nearer, else-live-k-via-else-live-k}
 
-pub loop-y-preserved : goal.loop-y-preserved
-loop-y-preserved c =
-    let h = c.loop-y.invariant in
-    elim c.if-low-y.branch [
-      | then-low-y+then-y-high+then-nearer+then-passes w ↦ rw w.best-is (listed_add _ _ _ _ _ _ _ c.loop-y.best w.if-low-y.true w.if-y-high.true (w.if-nearer.ensures.yes refl) (w.if-passes.ensures.yes refl) h)
-      | else-low-y w ↦ rw w.best-is
-          (elim w.else-low-y.branch [
-            | else-low-y-via-then-low-y+then-y-high+then-nearer+else-passes v ↦ listed_unfair _ _ _ _ _ _ _ c.loop-y.best (v.if-passes.ensures.no refl) h
-            | else-low-y-via-then-low-y+then-y-high+else-nearer v ↦ listed_later _ _ _ _ _ _ _ c.loop-y.best (v.if-nearer.ensures.no refl) h
-            | else-low-y-via-then-low-y+else-y-high v ↦ listed_skip _ _ _ _ _ _ _ c.loop-y.best (λ l d a. absurd (omega arith)) h
-            | else-low-y-via-else-low-y v ↦ listed_skip _ _ _ _ _ _ _ c.loop-y.best (λ l d a. absurd (omega arith)) h
+pub loop-k-preserved : goal.loop-k-preserved
+loop-k-preserved c =
+    let h = c.loop-k.invariant in
+    let d = c.sift_all-live.ensures.each c.loop-k.k c.loop-k-test.true in
+    elim c.if-live-k.branch [
+      | then-live-k+then-nearer w ↦ rw w.best-is
+          (let y = d.yes w.if-live-k.true in listed_add _ _ _ _ _ _ _ c.loop-k.best y.0 y.1 (w.if-nearer.ensures.yes refl) y.2 h)
+      | else-live-k w ↦ rw w.best-is
+          (elim w.else-live-k.branch [
+            | else-live-k-via-then-live-k+else-nearer v ↦ listed_later _ _ _ _ _ _ _ c.loop-k.best (v.if-nearer.ensures.no refl) h
+            | else-live-k-via-else-live-k v ↦ listed_unfair _ _ _ _ _ _ _ c.loop-k.best (d.no v.if-live-k.false) h
           ])
     ]
