@@ -9,6 +9,7 @@ use lib.Seq.{get_or-set_same, get_or-set_other}
 use Rattle.std.proofs.Common.{min}
 use Rattle.std.proofs.lemmas.List.{take_min}
 use lib.Dec.{leb, eqb}
+use borrow.Author.Count.{below_more}
 use borrow.Author.Tests.{le-leb, lt-leb}
 use Rattle.meaning.specs.Atoms.{at_most, at_least, is_below, is_above, equals, in_list, not_in_list, order, is_null, is_not_null}
 use Rattle.meaning.specs.Steps.{on}
@@ -18,6 +19,11 @@ use Rattle.asked.specs.Words.{numbers_at, word_atom, word_atoms, slot_of, seen_b
 
 pub both : {A B C : Type 0} (f : A → B → C) {a a' : A} {b b' : B} → a ≡ a' → b ≡ b' → f a b ≡ f a' b'
 both f p q = λ j. f (p j) (q j)
+
+-- one more element of a list that grows at n
+pub grow_new : (f : ℕ → ℕ) (vals : List ℕ) (n k x : ℕ) → n + k < length vals → ((j : ℕ) → j < k → get_or vals (n + j) 0 ≡ f j) → x ≡ f k → (j : ℕ) → j < k + 1 → get_or (set vals (n + k) x) (n + j) 0 ≡ f j
+grow_new f vals n k x l h e =
+    below_more (λ j. get_or (set vals (n + k) x) (n + j) 0 ≡ f j) k (λ j d. get_or-set_other vals (n + k) (n + j) x 0 (omega arith) ∙ h j d) (get_or-set_same vals (n + k) x 0 l ∙ e)
 
 at : (s : List ℕ) (i j : ℕ) → i ≡ j → get_or s i 0 ≡ get_or s j 0
 at s i j e = ap (λ (k : ℕ). get_or s k 0) e

@@ -105,7 +105,7 @@ module _ (top : List ℕ) (others : m.Clause) (a : Atom) where
   unfolding atom_of
   own = refl
 
-  implies_turned_yes : (t : Atom) (r : Bool) → atom_of t ≡ turned (atom_of a) → Live top (others ++ (atom_of t ∷ [])) r → r ≡ true → Covered top others (atom_of a) false
+  pub implies_turned_yes : (t : Atom) (r : Bool) → atom_of t ≡ turned (atom_of a) → Live top (others ++ (atom_of t ∷ [])) r → r ≡ true → Covered top others (atom_of a) false
   implies_turned_yes t r q h e = turned_yes top others (atom_of a) r e (as_turned t r q h)
 
   pub implies_null : (t : Atom) (r : Bool) → atom_of t ≡ turned (atom_of a) → Live top (others ++ (atom_of t ∷ [])) r → a.operator ≡ 7 → Covered top others (atom_of a) (not r)
@@ -126,7 +126,7 @@ module _ (top : List ℕ) (others : m.Clause) (a : Atom) where
   pub implies_other_yes : (n : Atom) (r : Bool) → atom_of n ≡ on a.other is_null → Live top (others ++ (atom_of n ∷ [])) r → r ≡ true → a.operator ≡ 0 → Covered top others (atom_of a) false
   implies_other_yes n r q h e o = other_yes top others (atom_of a) r a.other (equals_there a o) e (as_null n a.other r q h)
 
-  implies_apart_yes : (r : Bool) → Tells top (on a.variable (equals a.other) ∷ others) (λ sheet. Differs sheet others a.variable a.other) r → r ≡ true → a.operator ≡ 0 → Covered top others (atom_of a) false
+  pub implies_apart_yes : (r : Bool) → Tells top (on a.variable (equals a.other) ∷ others) (λ sheet. Differs sheet others a.variable a.other) r → r ≡ true → a.operator ≡ 0 → Covered top others (atom_of a) false
   unfolding atom_of
   implies_apart_yes r h e o = apart_yes top others (atom_of a) r a.other (equals_there a o) e h
 

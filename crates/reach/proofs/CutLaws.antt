@@ -70,7 +70,7 @@ module _ (s top : List ℕ) (u w : ℕ) (lu : u < 32) (lw : w < 32) where
       let b = value_is r.need r.x v a.0 a.1 in
       a.1 ∙ ap value (sym b.1)
 
-  rises_yes : (floor : List ℕ) (r : Solution) → IsLeast s top both floor r → get_or r.x u 0 < get_or r.x w 0 → Lesser s top u w true
+  pub rises_yes : (floor : List ℕ) (r : Solution) → IsLeast s top both floor r → get_or r.x u 0 < get_or r.x w 0 → Lesser s top u w true
   rises_yes floor r h l = (
     contents r.need r.x,
     record { sat = h.sat; p = get_or r.x u 0; q = get_or r.x w 0; holds_u = there floor r h u lu both_u; holds_w = there floor r h w lw both_w; less = l },

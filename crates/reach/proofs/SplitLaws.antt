@@ -1,6 +1,6 @@
 -- When two variables can hold different values, and when they can differ at all, null counted as one more value. From the
 -- promise of the least solution alone, free of code. Assumes nothing.
-use Rattle.std.proofs.Common.{◌≡◌, ℕ, ◌<◌, Bool, true, false, not, List, get_or, set, length-set, None, refl, sym, ◌∙◌, ap, arith}
+use Rattle.std.proofs.Common.{◌≡◌, ℕ, ◌<◌, Bool, true, false, not, List, get_or, set, length-set, None, refl, sym, ◌∙◌, ap, subst, arith}
 use native.Mathlib.Decide.{dec_lt}
 use Rattle.words.specs.Meaning.{Content, Content.null, Content.value, Sat, Differ}
 use Rattle.words.specs.Ties.{Tied}
@@ -8,6 +8,18 @@ use Rattle.reach.specs.Solution.{contents, Asks, IsLeast, Solves, Lesser, Apart,
 use Rattle.reach.specs.declared.Solution.{Solution}
 use Rattle.words.proofs.NeedLaws.{clash, has_value, mark_all, mark_old, mark_new, zero_at, unmarked}
 use Rattle.reach.proofs.SolveLaws.{met_Met, null_there, value_there, value_is, zeros, none, asks_nothing}
+
+-- less is different
+pub apart_yes : (s top : List ℕ) (u w : ℕ) {b : Bool} → b ≡ true → Lesser s top u w b → Apart s top u w true
+apart_yes s top u w d h =
+    let g : Lesser s top u w true = subst (λ (b : Bool). Lesser s top u w b) d h in
+    let o = g.1 in
+    (g.0, record { sat = o.sat; p = o.p; q = o.q; holds_u = o.holds_u; holds_w = o.holds_w; differ = let l = o.less in λ e. omega arith })
+
+pub apart_back : (s top : List ℕ) (u w : ℕ) → Apart s top w u true → Apart s top u w true
+apart_back s top u w h =
+    let o = h.1 in
+    (h.0, record { sat = o.sat; p = o.q; q = o.p; holds_u = o.holds_w; holds_w = o.holds_u; differ = λ e. o.differ (sym e) })
 
 -- different is less one way or the other
 pub apart_other : (s top : List ℕ) (u w : ℕ) (b : Bool) → Lesser s top u w false → Lesser s top w u b → Apart s top u w b
@@ -119,6 +131,20 @@ module _ (s top : List ℕ) (u w : ℕ) (lu : u < 32) (lw : w < 32) where
 -- different, null counted as one more value
 
 module _ (s top : List ℕ) (u w : ℕ) where
+  pub parts_beside : {b : Bool} → b ≡ true → NullBeside s top u w b → Parts s top u w true
+  parts_beside d h =
+      let g : NullBeside s top u w true = subst (λ (b : Bool). NullBeside s top u w b) d h in
+      (g.0, g.1, λ q. g.3 (sym q ∙ g.2))
+
+  pub parts_back : Parts s top w u true → Parts s top u w true
+  parts_back h = (h.0, h.1, λ q. h.2 (sym q))
+
+  pub parts_apart : {b : Bool} → b ≡ true → Apart s top u w b → Parts s top u w true
+  parts_apart d h =
+      let g : Apart s top u w true = subst (λ (b : Bool). Apart s top u w b) d h in
+      let o = g.1 in
+      (g.0, o.sat, λ q. o.differ (let a = o.holds_u in let b = o.holds_w in cc))
+
   pub parts_by : NullBeside s top u w false → NullBeside s top w u false → (b : Bool) → Apart s top u w b → Parts s top u w b
   parts_by f g true h =
       let o = h.1 in
@@ -133,6 +159,18 @@ module _ (s top : List ℕ) (u w : ℕ) where
 
   pub parts_none : Solves s top none zeros None → Parts s top u w false
   parts_none h = λ e m ne. h e m (asks_nothing e)
+
+  -- the least solution of all tells where it has u null and w not
+  pub parts_left : (low : Solution) → IsLeast s top none zeros low → get_or low.need u false ≡ false → get_or low.need w false ≡ true → Parts s top u w true
+  parts_left low h z y = (
+    contents low.need low.x,
+    h.sat,
+    (λ q.
+        let a : contents low.need low.x u ≡ null = null_there low.need low.x u z in
+        let b : contents low.need low.x w ≡ value (get_or low.x w 0) = value_there low.need low.x w y in
+        let i : ◌≡◌ {A = ℕ} 0 1 = cc in
+        omega arith),
+  )
 
   pub parts_neither : u < 32 → w < 32 → (low : Solution) → IsLeast s top none zeros low → get_or low.need u false ≡ true → get_or low.need w false ≡ true → (b : Bool) → Apart s top u w b → Parts s top u w b
   parts_neither lu lw low h yu yw b a = parts_by (λ e m z nn. h.surely u lu yu e m (asks_nothing e) z) (λ e m z nn. h.surely w lw yw e m (asks_nothing e) z) b a

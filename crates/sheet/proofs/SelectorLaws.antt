@@ -72,7 +72,7 @@ module _ (facts : Sheet) (inner : Reader Selector) (node : ℕ) (s : List ℕ) (
       go (no a) (yes b) = either (omega arith)
       go (no a) (no b) = none (omega arith)
 
-  inner_lost : {n : ℕ} → 5 ≤ node → node < 8 → inner s p ≡ refused n → selector_node facts inner node s p ≡ refused n
+  pub inner_lost : {n : ℕ} → 5 ≤ node → node < 8 → inner s p ≡ refused n → selector_node facts inner node s p ≡ refused n
   inner_lost l h e = node_cases l h (λ i. node_and i ∙ ends _ e) (λ i. node_or i ∙ ends _ e) (λ i. node_not i ∙ ends _ e)
 
   inner_next : {n : ℕ} {H : Selector → Type 0} {q : Place} (g : Got (inner s p) H q) → 5 ≤ node → node < 7 → inner s g.place ≡ refused n → selector_node facts inner node s p ≡ refused n

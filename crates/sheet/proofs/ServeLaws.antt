@@ -115,7 +115,7 @@ module _ (facts : Sheet) (x : sheets.Selector) where
   shared_none p e = every_true (every (atom_held 65535)) (every_true (atom_held 65535) λ a. every_true (column_held 65535) every_column (a.variable ∷ second a.operator)) p.clauses
 
   module _ (t columns : ℕ) (h : Shared facts x t columns) {matched : Bool} (e : matched ≡ matches t (table_at facts t) x) where
-    shared_matched : (more : ℕ) → matched ≡ true → more ≡ (table_at facts t).columns → Shared facts x (t + 1) (bit_and columns more)
+    pub shared_matched : (more : ℕ) → matched ≡ true → more ≡ (table_at facts t).columns → Shared facts x (t + 1) (bit_and columns more)
     shared_matched more i g p s =
         clauses_both columns more p.clauses
         ∙ every_more (table_serves facts p) (numbers_from 0 t) t (h p s) (
@@ -123,7 +123,7 @@ module _ (facts : Sheet) (x : sheets.Selector) where
         ap (λ z. every (every (atom_held z)) p.clauses) g ∙ sym (ap (λ b. cond b (columns_held (table_at facts t) p) true) k))
         ∙ sym (ap (every (table_serves facts p)) (numbers_more t))
 
-    shared_unmatched : matched ≡ false → Shared facts x (t + 1) columns
+    pub shared_unmatched : matched ≡ false → Shared facts x (t + 1) columns
     shared_unmatched i p s =
         and_true (every (every (atom_held columns)) p.clauses)
         ∙ every_more (table_serves facts p) (numbers_from 0 t) t (h p s) (

@@ -67,12 +67,12 @@ known a i e = subst (λ q. Poses q a.question.roles a.question.counts a.question
 
 module _ {q : Posed} {roles counts top : List ℕ} {number : ℕ} (poses : Poses q roles counts number top) where
   -- the branch that a number picks is the definitions' own
-  branch_is : (k : ℕ) (b : Branch) → k < number_of q → Picks roles counts k b → conjunction (clauses_of q.sheet) b ≡ branch_at q k
+  pub branch_is : (k : ℕ) (b : Branch) → k < number_of q → Picks roles counts k b → conjunction (clauses_of q.sheet) b ≡ branch_at q k
   branch_is k b l h =
       let e : branches q.sheet q.table q.command ≡ branches_of roles (clauses_of q.sheet) = branches_are q.sheet q.table q.command roles poses.allowed.policies poses.roles in
       h.picks (clauses_of q.sheet) (counts_sized q.sheet counts poses.allowed poses.counts) (subst (λ z. k < z) (sym (branches_counted q.sheet q.table q.command) ∙ ap length e) l) ∙ ap (λ cs. get_or cs k []) (sym e)
 
-  branch_used : (k : ℕ) → k < number_of q → Uses (held_by q) q.sheet (branch_at q k)
+  pub branch_used : (k : ℕ) → k < number_of q → Uses (held_by q) q.sheet (branch_at q k)
   branch_used k l =
       all_at (Uses (held_by q) q.sheet) [] (branches q.sheet q.table q.command) k (subst (λ z. k < z) (sym (branches_counted q.sheet q.table q.command)) l) (branches_used q.sheet poses.allowed q.table q.command poses.there)
 

@@ -67,6 +67,10 @@ module _ (p : Posed) where
         also = l.other_tenant;
       }
 
+  -- a branch of a leaking pair is met
+  pub leak_met : (a b : ℕ) → Leak p.sheet p.table p.command a b → Met p a
+  leak_met a b l = record { row = l.row; session = l.one; is_row = l.is_row; is_session = l.is_session_one; meets = l.meets_a }
+
   -- a live branch is a live table
   pub live_by : (k : ℕ) → k < number_of p → Met p k → IsLive p.sheet p.table p.command
   live_by k l m = (m.row, m.session, record { is_row = m.is_row; is_session = m.is_session; admitted = branch_admits p.sheet p.table p.command (with m.row m.session) k (there k l) m.meets })

@@ -2,17 +2,31 @@
 use Prim.Native.Nat.{ℕ, ◌+◌, ◌<◌}
 use native.Mathlib.Omega.{arith}
 use native.Mathlib.Decide.{ℕ_discrete}
-use mathlib.Core.Path.{◌≡◌, refl, sym, ◌∙◌, ap}
+use mathlib.Core.Path.{◌≡◌, refl, sym, ◌∙◌, ap, subst}
 use mathlib.Core.Bool.{Bool, true, false}
 use mathlib.Core.List.{List}
-use lib.ListN.{get_or}
+use lib.ListN.{length, get_or, set}
+use lib.Seq.{get_or-set_same, get_or-set_other}
 use lib.Dec.{eqb}
 use borrow.Author.Count.{below_more}
 use borrow.Author.Tests.{ne_eqb, eq-eqb}
 use Rattle.words.specs.Meaning.{Content, var_at, op_at, other_at, atoms}
 use Rattle.words.specs.Ties.{pick_n, mate_at, Met, renamed, Renames, Classes}
 
+-- one more element of a list that is filled from the front: what each element has, by its place
+pub fill_more : (P : ℕ → ℕ → Type 0) (out : List ℕ) (v x : ℕ) → v < length out → ((w : ℕ) → w < v → P w (get_or out w 0)) → P v x → (w : ℕ) → w < v + 1 → P w (get_or (set out v x) w 0)
+fill_more P out v x l h e =
+    below_more (λ w. P w (get_or (set out v x) w 0)) v (λ w d. subst (P w) (sym (get_or-set_other out v w x 0 (omega arith))) (h w d)) (subst (P v) (sym (get_or-set_same out v x 0 l)) e)
+
+-- the same of a list that is filled by a rule
+pub fill_step : (f : ℕ → ℕ) (out : List ℕ) (v x : ℕ) → v < length out → ((w : ℕ) → w < v → get_or out w 0 ≡ f w) → x ≡ f v → (w : ℕ) → w < v + 1 → get_or (set out v x) w 0 ≡ f w
+fill_step f out v x l h e =
+    below_more (λ w. get_or (set out v x) w 0 ≡ f w) v (λ w d. get_or-set_other out v w x 0 (omega arith) ∙ h w d) (get_or-set_same out v x 0 l ∙ e)
+
 -- labels
+
+pub at_label : (rep : List ℕ) {v w r : ℕ} → v ≡ w → get_or rep v 0 ≡ r → get_or rep w 0 ≡ r
+at_label rep e q = ap (λ (k : ℕ). get_or rep k 0) (sym e) ∙ q
 
 pick_same : (b : Bool) (a : ℕ) → pick_n b a a ≡ a
 pick_same true a = refl

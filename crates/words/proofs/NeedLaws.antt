@@ -3,12 +3,14 @@ use Prim.Native.Nat.{ℕ, zero, suc, ◌+◌, ◌≤◌, ◌<◌}
 use native.Mathlib.Omega.{arith}
 use native.Mathlib.Decide.{ℕ_discrete}
 use mathlib.Core.Path.{◌≡◌, refl, sym, ◌∙◌, ap, subst}
-use mathlib.Core.Bool.{Bool, true, false}
+use mathlib.Core.Bool.{Bool, true, false, not}
 use mathlib.Core.List.{List}
 use lib.ListN.{length, get_or, set, length-set, replicate}
+use lib.Dec.{eqb}
 use borrow.Author.Count.{below_more}
+use borrow.Author.Tests.{eqb-true, eqb-false, ne_eqb}
 use lib.Seq.{get_or-set_same, get_or-set_other}
-use Rattle.words.specs.Meaning.{Test, Content, Content.null, Content.value, allows, wants, passes, var_at, test_at, atoms}
+use Rattle.words.specs.Meaning.{Test, Test.test_null, Test.test_not_null, Content, Content.null, Content.value, allows, wants, passes, pick_test, test_of, var_at, op_at, test_at, atoms}
 use Rattle.words.specs.Ties.{mate_at, Needs}
 
 pub clash : {b : Bool} → b ≡ true → b ≡ false → ⊥
@@ -21,6 +23,9 @@ clash p q = let z : ◌≡◌ {A = ℕ} 0 1 = ap pick (sym p ∙ q) in omega ari
 pub has_value : (c : Content) → (c ≡ null → ⊥) → (n : ℕ) × (c ≡ value n)
 has_value null h = absurd (h refl)
 has_value (value n) h = (n, refl)
+
+pub no_null : (t : Test) (c : Content) → wants t ≡ true → passes t c → c ≡ null → ⊥
+no_null t c w h z = let q : passes t null = subst (λ (x : Content). passes t x) z h in clash w q
 
 pub allows_at : (t : Test) (c : Content) (n : ℕ) → passes t c → c ≡ value n → allows t n
 allows_at t c n h e = subst (λ (x : Content). passes t x) e h
@@ -114,5 +119,25 @@ needs_add s need0 need i v p ev ep lv lp li f h =
     old : (w : ℕ) → get_or need w false ≡ true → get_or next w false ≡ true
     old w y = mark_old (set need v true) p w lp' (mark_old need v w lv y)
 
-    no_null : (t : Test) (c : Content) → wants t ≡ true → passes t c → c ≡ null → ⊥
-    no_null t c w h z = let q : passes t null = subst (λ (x : Content). passes t x) z h in clash w q
+-- which tests want a value
+
+wants_pick : (b : Bool) (t u : Test) → wants t ≡ true → wants u ≡ true → wants (pick_test b t u) ≡ true
+wants_pick true t u p q = p
+wants_pick false t u p q = q
+
+pub wants_rest : (op c x : ℕ) (f : ℕ → ℕ) → (op ≡ 7 → ⊥) → wants (test_of op c x f) ≡ true
+wants_rest op c x f a =
+    wants_pick (eqb op 1) _ _ refl
+    (wants_pick (eqb op 2) _ _ refl
+    (wants_pick (eqb op 3) _ _ refl
+    (wants_pick (eqb op 4) _ _ refl
+    (wants_pick (eqb op 5) _ _ refl
+    (wants_pick (eqb op 6) _ _ refl (ap (λ (b : Bool). wants (pick_test b test_null test_not_null)) (ne_eqb op 7 a)))))))
+
+pub wanting_law : (s : List ℕ) (i : ℕ) → not (eqb (op_at s i) 7) ≡ wants (test_at s i)
+unfolding test_at
+wanting_law s i = go (eqb (op_at s i) 7) refl
+  where
+    go : (b : Bool) → eqb (op_at s i) 7 ≡ b → not (eqb (op_at s i) 7) ≡ wants (test_at s i)
+    go true e = rw (eqb-true (op_at s i) 7 e)
+    go false e = ap not e ∙ sym (wants_rest (op_at s i) _ _ _ (eqb-false (op_at s i) 7 e))
