@@ -14,7 +14,7 @@ use Rattle.meaning.specs.Packed.{kind_bits, table_bits, count_bits, fact_bits}
 use Rattle.packing.specs.Wrote.{Wrote}
 
 -- nothing is written at first
-wrote_start : (o s : List ℕ) → o ≡ s → Wrote o [] s 0
+pub wrote_start : (o s : List ℕ) → o ≡ s → Wrote o [] s 0
 wrote_start o s e l m = let h = holds_start o in (refl, sym e ∙ h.packed, h.are)
 
 pub begun : (o s : List ℕ) (p : ℕ) → s ≡ o → p ≡ 0 → Wrote o [] s p
