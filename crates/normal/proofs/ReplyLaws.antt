@@ -45,7 +45,7 @@ module _ (s out : List ℕ) where
     form_short h = by_reading (Err NoRoom) out (found sheet accepted.0) false accepted.1 (lt-leb (length s) (length out) h) (refl, refl)
 
     -- what is written is the packed form of `normal`, over the output
-    form_written : length s ≤ length out → (normal : Sheet) → NormalSheet sheet normal → (after : List ℕ) (p : ℕ) → Wrote out (sheet_bits normal) after p
+    pub form_written : length s ≤ length out → (normal : Sheet) → NormalSheet sheet normal → (after : List ℕ) (p : ℕ) → Wrote out (sheet_bits normal) after p
         → NormalFormReply s out (Ok ((p + 7) / 8)) after
     unfolding packed packed_over
     form_written h normal n after p w =
