@@ -55,6 +55,24 @@ impl<'a> Model for Asking<'a> {
     ghost invariant = { IsPosed };
 }
 
+// Clause number k of policy p, which is there, is laid behind n atoms of the words. (Apart, since a function clears its clause as it is
+// entered, and most policies' slots have none.)
+#[inline(never)]
+fn lay_picked(
+    sheet: &Accepted,
+    p: usize,
+    k: usize,
+    words: &mut [u64],
+    n: usize,
+    second: bool,
+) -> usize
+    requires { n * 11 + 88 ≤ length words.old }
+    ensures count { result ≤ n + 8 }
+    ensures atoms { k < length (clauses_of sheet.now p) → word_atoms words.new result ≡ word_atoms words.old n ++ map (seen second) (get_or (clauses_of sheet.now p) k []) }
+{
+    asked::lay(words, n, sheet.clause(p, k), second)
+}
+
 // Clause number k of policy p is laid behind n atoms of the words, where there is one; the answer is how many atoms there are then.
 fn lay_clause(
     sheet: &Accepted,
@@ -71,7 +89,7 @@ fn lay_clause(
     if sheet.clause_count(p) as u64 <= k {
         return n;
     }
-    asked::lay(words, n, sheet.clause(p, k as usize), second)
+    lay_picked(sheet, p, k as usize, words, n, second)
 }
 
 // The clauses of a branch are laid behind n atoms of the words, for the first session or the second.
